@@ -1,0 +1,78 @@
+-- An order and its ranks determine each other, both ways: over the crate's records.
+-- Assumes nothing.
+use Prim.Native.Nat.{_≤_}
+use mathlib.Core.Path.{_≡_, refl, sym, ap, _∙_}
+use mathlib.Core.Bool.{true}
+use mathlib.Core.List.{List}
+use lib.ListN.{length}
+use Rattle.order.specs.declared.Cell.{Cell}
+use Rattle.order.specs.declared.Rank.{Rank}
+use Rattle.order.specs.declared.Order.{Order}
+use Rattle.order.specs.declared.Ranks.{Ranks}
+use Rattle.order.specs.Refusals.{numberOf}
+use Rattle.order.specs.Cells.{isListing}
+use Rattle.order.specs.Order.{cellNumbers, listed, orderChecks, orderRecord, rankNumbers, ranked, rankChecks, ranksOf, orderByRank, ranksOfOrder, orderOfRanks}
+use Rattle.order.proofs.Cells.{IsOrder, order-true}
+use Rattle.order.proofs.Refusals.{told-done, sized-done, sized-holds}
+use Rattle.order.proofs.Check.{listing-parts}
+use Rattle.order.proofs.Records.{passed, passed-order, record-back}
+use Rattle.order.proofs.Padded.{padded, padded-back}
+use Rattle.order.proofs.Inverse.{inverseTo}
+use Rattle.order.proofs.Inverted.{inverted, inverted-listed, inverted-listing, inverted-back}
+use Rattle.order.proofs.Listings.{cell, cellNumber, rank, rankNumber}
+
+-- ---- the order of an order's ranks
+
+module _ (o : Order) (w : length (o .cells) ≡ 12) (d : numberOf (orderChecks o) ≡ 0) where
+  ranks-pass : numberOf (rankChecks (ranksOf o)) ≡ 0
+  unfolding ranksOf rankNumbers inverted
+  ranks-pass =
+      sized-holds (o .len) _ _ (passed o d .0) (passed o d .1)
+      (inverted-listing rank rankNumber (λ k. refl) (λ k. refl) 12 (o .len) (listed o) (passed-order o d) (passed o d .1))
+
+  cells-back : inverted cell cellNumber (λ k. refl) (λ c. refl) 12 (ranked (ranksOf o)) ≡ o .cells
+  unfolding ranksOf rankNumbers inverted orderRecord padded
+  cells-back =
+      ap (inverted cell cellNumber (λ k. refl) (λ c. refl) 12) (inverted-listed rank rankNumber (λ k. refl) (λ k. refl) 12 (o .len) (listed o) (passed o d .1))
+      ∙ inverted-back cell cellNumber (λ k. refl) (λ c. refl) 12 (o .len) (listed o) (passed-order o d) (passed o d .1)
+      ∙ ap (λ (r : Order). r .cells) (record-back o d w)
+
+  order-back : orderByRank (ranksOf o) ≡ o
+  unfolding orderByRank ranksOf inverted
+  order-back = ap (λ (cs : List Cell). record { len = o .len; cells = cs }) cells-back
+
+  -- an order is the order of its ranks
+  pub order-of-its-ranks : orderOfRanks (ranksOf o) ≡ record { number = 0; value = o }
+  unfolding orderOfRanks
+  order-of-its-ranks = sym (told-done _ _ _ ranks-pass) ∙ ap (λ (r : Order). record { number = 0; value = r }) order-back
+
+-- ---- the ranks of the order of ranks
+
+module _ (r : Ranks) (w : length (r .ranks) ≡ 12) (d : numberOf (rankChecks r) ≡ 0) where
+  hold : (3 ≤ r .len) × (r .len ≤ 12) × (isListing (r .len) (r .len) (rankNumbers r) ≡ true)
+  hold = sized-done (r .len) _ _ d
+
+  ranked-order : IsOrder (r .len) (ranked r)
+  ranked-order = order-true (r .len) (ranked r) (listing-parts (rankNumbers r) (r .len) (r .len) (hold .2) .0)
+
+  order-passes : numberOf (orderChecks (orderByRank r)) ≡ 0
+  unfolding orderByRank cellNumbers inverted
+  order-passes =
+      sized-holds (r .len) _ _ (hold .0) (hold .1)
+      (inverted-listing cell cellNumber (λ k. refl) (λ c. refl) 12 (r .len) (ranked r) ranked-order (hold .1))
+
+  ranks-back : ranksOf (orderByRank r) ≡ r
+  unfolding ranksOf orderByRank cellNumbers rankNumbers inverted padded
+  ranks-back =
+      let listed-is : listed (orderByRank r) ≡ inverseTo (r .len) (ranked r) =
+      inverted-listed cell cellNumber (λ k. refl) (λ c. refl) 12 (r .len) (ranked r) (hold .1) in
+      ap (λ (ks : List Rank). record { len = r .len; ranks = ks })
+      (ap (inverted rank rankNumber (λ k. refl) (λ k. refl) 12) listed-is
+      ∙ inverted-back rank rankNumber (λ k. refl) (λ k. refl) 12 (r .len) (ranked r) ranked-order (hold .1)
+      ∙ padded-back rank rankNumber (λ k. refl) (λ k. refl) (r .ranks) 12 (r .len) w (hold .1)
+      (listing-parts (rankNumbers r) (r .len) (r .len) (hold .2) .1))
+
+  -- ranks are the ranks of their order
+  pub ranks-of-their-order : ranksOfOrder (orderByRank r) ≡ record { number = 0; value = r }
+  unfolding ranksOfOrder
+  ranks-of-their-order = sym (told-done _ _ _ order-passes) ∙ ap (λ (k : Ranks). record { number = 0; value = k }) ranks-back

@@ -1,0 +1,17 @@
+pub mod Cells
+pub mod Refusals
+pub mod Tabulate
+pub mod Mask
+pub mod Numbers
+pub mod Sweep
+pub mod Check
+pub mod Ranking
+pub mod Padded
+pub mod Inverse
+pub mod Inverted
+pub mod Listings
+pub mod Filling
+pub mod Records
+pub mod Pairs
+pub mod Inverses
+pub mod Told

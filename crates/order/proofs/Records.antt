@@ -1,0 +1,53 @@
+-- A list of cells and its record determine each other.
+-- Assumes nothing.
+use Prim.Native.Nat.{ℕ, _≤_}
+use mathlib.Core.Path.{_≡_, refl}
+use mathlib.Core.Bool.{Bool, true, false, _&&_}
+use mathlib.Core.List.{List}
+use lib.ListN.{length}
+use borrow.Author.Tests.{eq-eqb}
+use Rattle.order.specs.declared.Order.{Order}
+use Rattle.order.specs.Refusals.{numberOf}
+use Rattle.order.specs.Cells.{isOrder, isListing}
+use Rattle.order.specs.Order.{cellNumbers, listed, isOrderOf, orderChecks, orderRecord}
+use Rattle.order.proofs.Cells.{IsOrder, order-true}
+use Rattle.order.proofs.Refusals.{sized-done}
+use Rattle.order.proofs.Check.{listing-parts}
+use Rattle.order.proofs.Padded.{padded, padded-listed, padded-clear, padded-back}
+use Rattle.order.proofs.Listings.{cell, cellNumber}
+
+and-true : (b : Bool) → (b && true) ≡ b
+and-true true = refl
+and-true false = refl
+
+module _ (xs : List ℕ) (s : length xs ≤ 12) where
+  pub record-listed : listed (orderRecord xs) ≡ xs
+  unfolding cellNumbers orderRecord padded
+  record-listed = padded-listed cell cellNumber (λ k. refl) (λ c. refl) 12 xs s (length xs) refl
+
+  pub record-order : isOrderOf (length xs) (orderRecord xs) ≡ isOrder (length xs) xs
+  unfolding isListing cellNumbers orderRecord padded
+  record-order =
+      rw (eq-eqb (length xs) (length xs) refl, record-listed, padded-clear cell cellNumber (λ k. refl) (λ c. refl) 12 xs s (length xs) refl)
+      (and-true (isOrder (length xs) xs))
+
+-- what an order that passes the checks tells
+module _ (o : Order) (d : numberOf (orderChecks o) ≡ 0) where
+  pub passed : (3 ≤ o .len) × (o .len ≤ 12) × (isOrderOf (o .len) o ≡ true)
+  passed = sized-done (o .len) _ _ d
+
+  pub passed-listed : isOrder (o .len) (listed o) ≡ true
+  passed-listed = listing-parts (cellNumbers o) (o .len) (o .len) (passed .2) .0
+
+  pub passed-order : IsOrder (o .len) (listed o)
+  passed-order = order-true (o .len) (listed o) passed-listed
+
+  pub record-back : length (o .cells) ≡ 12 → orderRecord (listed o) ≡ o
+  unfolding cellNumbers orderRecord padded
+  record-back w =
+      λ i. record {
+        len = passed-order .size i;
+        cells =
+            padded-back cell cellNumber (λ k. refl) (λ c. refl) (o .cells) 12 (o .len) w (passed .1)
+            (listing-parts (cellNumbers o) (o .len) (o .len) (passed .2) .1) i;
+      }

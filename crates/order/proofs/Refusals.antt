@@ -1,0 +1,125 @@
+-- The refusal table: what a number tells, and how an answer follows from its checks.
+-- Assumes nothing.
+use Prim.Native.Nat.{ℕ, _≤_, _<_}
+use mathlib.Core.Path.{_≡_, refl, sym, ap, _∙_}
+use mathlib.Core.Bool.{Bool, true, false, and-false}
+use mathlib.Core.List.{List, [], _∷_}
+use native.Mathlib.Omega.{arith}
+use lib.Dec.{leb}
+use lib.ListN.{getD}
+use borrow.Author.Tests.{leb-true, le-leb, lt-leb}
+use Rattle.order.specs.declared.Refusal.{Refusal}
+use Rattle.order.specs.declared.Refusal.the-variants.{Size, NoGroup, NoCell, NoOrder, NoSymbol, Blank, Lost, Worn, CapUp, ListShort, Coordinate, BadRecord}
+use Rattle.order.specs.declared.Outcome.{Outcome}
+use Rattle.order.specs.declared.Outcome.the-variants.{Done, Refused}
+use Rattle.order.specs.Refusals.{refusalNumber, outcomeNumber, numberOf, ifDone, answer, isSize}
+use Rattle.order.proofs.Cells.{both}
+
+-- ---- the number determines the outcome
+
+outcomes : List Outcome
+outcomes = Done ∷ Refused Size ∷ Refused NoGroup ∷ Refused NoCell ∷ Refused NoOrder ∷ Refused NoSymbol ∷ Refused Blank ∷ Refused Lost ∷ Refused Worn ∷ Refused CapUp ∷ Refused ListShort ∷ Refused Coordinate ∷ Refused BadRecord ∷ []
+
+outcome-at : (o : Outcome) → getD outcomes (outcomeNumber o) Done ≡ o
+unfolding outcomes
+outcome-at Done = refl
+outcome-at (Refused Size) = refl
+outcome-at (Refused NoGroup) = refl
+outcome-at (Refused NoCell) = refl
+outcome-at (Refused NoOrder) = refl
+outcome-at (Refused NoSymbol) = refl
+outcome-at (Refused Blank) = refl
+outcome-at (Refused Lost) = refl
+outcome-at (Refused Worn) = refl
+outcome-at (Refused CapUp) = refl
+outcome-at (Refused ListShort) = refl
+outcome-at (Refused Coordinate) = refl
+outcome-at (Refused BadRecord) = refl
+
+pub outcome-by-number : (a b : Outcome) → outcomeNumber a ≡ outcomeNumber b → a ≡ b
+outcome-by-number a b e = sym (outcome-at a) ∙ ap (λ (k : ℕ). getD outcomes k Done) e ∙ outcome-at b
+
+-- no refusal has the number 0
+refused-zeros : {A : Type 0} (r : Refusal) (result zeros : A) → ifDone (refusalNumber r) result zeros ≡ zeros
+refused-zeros Size result zeros = refl
+refused-zeros NoGroup result zeros = refl
+refused-zeros NoCell result zeros = refl
+refused-zeros NoOrder result zeros = refl
+refused-zeros NoSymbol result zeros = refl
+refused-zeros Blank result zeros = refl
+refused-zeros Lost result zeros = refl
+refused-zeros Worn result zeros = refl
+refused-zeros CapUp result zeros = refl
+refused-zeros ListShort result zeros = refl
+refused-zeros Coordinate result zeros = refl
+refused-zeros BadRecord result zeros = refl
+
+pub refusal-by-number : (r s : Refusal) → refusalNumber r ≡ refusalNumber s → r ≡ s
+refusal-by-number r s e = let o : Refused r ≡ Refused s = outcome-by-number (Refused r) (Refused s) e in cc
+
+pub not-zero : (r : Refusal) → refusalNumber r ≡ 0 → ⊥
+not-zero r e = let z : _≡_ {A = ℕ} 1 0 = sym (refused-zeros r 0 1) ∙ ap (λ (k : ℕ). ifDone k 0 1) e in omega arith
+
+-- ---- checks
+
+-- the first check decides where it does not hold, the later ones where it does, and none refuses
+module _ (r : Refusal) (later : List (Bool × Refusal)) {b : Bool} where
+  pub check-fails : b ≡ false → numberOf ((b, r) ∷ later) ≡ refusalNumber r
+  unfolding numberOf
+  check-fails e = rw e
+
+  pub check-holds : b ≡ true → numberOf ((b, r) ∷ later) ≡ numberOf later
+  unfolding numberOf
+  check-holds e = rw e
+
+pub all-hold : numberOf [] ≡ 0
+unfolding numberOf
+all-hold = refl
+
+-- a check of a call that is done held, and so did the later ones
+pub check-held : (b : Bool) (r : Refusal) (later : List (Bool × Refusal)) → numberOf ((b, r) ∷ later) ≡ 0 → (b ≡ true) × (numberOf later ≡ 0)
+unfolding numberOf
+check-held true r later e = (refl, e)
+check-held false r later e = absurd (not-zero r e)
+
+-- ---- answers
+
+module _ {A : Type 0} (checks : List (Bool × Refusal)) (result zeros : A) where
+  pub told-done : numberOf checks ≡ 0 → record { number = 0; value = result } ≡ answer checks result zeros
+  unfolding answer
+  told-done e = rw e
+
+  pub told-refused : (r : Refusal) → numberOf checks ≡ refusalNumber r → record { number = refusalNumber r; value = zeros } ≡ answer checks result zeros
+  unfolding answer
+  told-refused r e = rw (e, refused-zeros r result zeros)
+
+  -- an outcome of the same checks, passed on
+  pub passed-on : (o : Outcome) → outcomeNumber o ≡ numberOf checks → (r : Refusal) → o ≡ Refused r → record { number = outcomeNumber o; value = zeros } ≡ answer checks result zeros
+  passed-on o e r d = rw d (told-refused r (sym e ∙ ap outcomeNumber d))
+
+pub accepted : {o : Outcome} {k : ℕ} → outcomeNumber o ≡ k → o ≡ Done → k ≡ 0
+accepted e d = sym e ∙ ap outcomeNumber d
+
+-- ---- the size
+
+pub size-true : (n : ℕ) → isSize n ≡ true → (3 ≤ n) × (n ≤ 12)
+size-true n e = let t = both (leb 3 n) (leb n 12) e in (leb-true 3 n (t .0), leb-true n 12 (t .1))
+
+pub size-low : (n : ℕ) → n < 3 → isSize n ≡ false
+size-low n l = rw (lt-leb 3 n l)
+
+pub size-high : (n : ℕ) → 12 < n → isSize n ≡ false
+size-high n h = rw (lt-leb n 12 h, and-false)
+
+pub size-in : (n : ℕ) → 3 ≤ n → n ≤ 12 → isSize n ≡ true
+size-in n l h = rw (le-leb 3 n l, le-leb n 12 h)
+
+-- a size and one more check: that they hold, and what they tell
+pub sized-holds : (n : ℕ) (b : Bool) (r : Refusal) → 3 ≤ n → n ≤ 12 → b ≡ true → numberOf ((isSize n, Size) ∷ (b, r) ∷ []) ≡ 0
+sized-holds n b r l h e = check-holds _ _ (size-in n l h) ∙ check-holds _ _ e ∙ all-hold
+
+pub sized-done : (n : ℕ) (b : Bool) (r : Refusal) → numberOf ((isSize n, Size) ∷ (b, r) ∷ []) ≡ 0 → (3 ≤ n) × (n ≤ 12) × (b ≡ true)
+sized-done n b r e =
+    let s = check-held (isSize n) Size ((b, r) ∷ []) e in
+    let l = size-true n (s .0) in
+    (l .0, l .1, check-held b r [] (s .1) .0)

@@ -1,0 +1,37 @@
+-- `order::ranks_of` meets its contract.
+-- Assumes nothing.
+use borrow.Author.Needs.{needs}
+use Rattle.order.specs.Order.{ranksOfOrder}
+use Rattle.order.proofs.Refusals.{accepted, passed-on, told-done}
+use Rattle.order.proofs.Records.{passed, passed-listed}
+use Rattle.order.proofs.ranks_of.Statement.{statement}
+use Rattle.order.proofs.ranks_of.Tie as tie
+
+check-order-requires : tie.Need-check-order-requires
+check-order-requires c κs = search needs
+
+enum-told : tie.Need-enum-told
+enum-told c = search needs
+
+enum-told-2 : tie.Need-enum-told-2
+enum-told-2 c = search needs
+
+returns : tie.Need-returns
+unfolding ranksOfOrder
+returns c = passed-on _ _ _ _ (c .before .before .check-order .ensures) _ (c .enum-told2 .given .1)
+
+ranks-by-sweep-requires : tie.Need-ranks-by-sweep-requires
+ranks-by-sweep-requires c κs =
+    let d = accepted (c .before .before .check-order .ensures) (c .enum-told .given .1) in
+    (passed _ d .1, passed-listed _ d)
+
+returns-2 : tie.Need-returns-2
+unfolding ranksOfOrder
+returns-2 c =
+    rw (c .ranks-by-sweep .ensures)
+    (told-done _ _ _ (accepted (c .before .before .before .check-order .ensures) (c .before .enum-told .given .1)))
+
+pub ranks-of-spec : {M : Type 1} → statement M
+ranks-of-spec =
+    tie.close
+    (tie.spec check-order-requires enum-told enum-told-2 returns ranks-by-sweep-requires returns-2)

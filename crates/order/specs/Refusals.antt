@@ -1,0 +1,55 @@
+-- Document 01, "Refusal table": the numbers, which one is given, and what an answer says in these terms.
+--
+--   refusalNumber r     the number of a refusal
+--   outcomeNumber o     the number of an outcome: 0 is done
+--   numberOf checks     the number that is given: that of the first check that does not hold, 0 where all hold
+--   ifDone k a z        a where the number k is 0, else z
+--   Told A              an answer in the table's terms: its number, and the value of type A beside it
+--   answer checks a z   0 and the result a where all checks hold, else the number and the zeros z
+--   isSize n            n is from 3 to 12
+--
+-- A check is a pair: whether it holds, and the refusal where it does not. Checks are listed in the order in which they run.
+use Prim.Native.Nat.{ℕ, zero, suc}
+use mathlib.Core.Bool.{Bool, cond, _&&_}
+use mathlib.Core.List.{List, [], _∷_}
+use lib.Dec.{leb}
+use Rattle.order.specs.declared.Refusal.{Refusal}
+use Rattle.order.specs.declared.Refusal.the-variants.{Size, NoGroup, NoCell, NoOrder, NoSymbol, Blank, Lost, Worn, CapUp, ListShort, Coordinate, BadRecord}
+use Rattle.order.specs.declared.Outcome.{Outcome}
+use Rattle.order.specs.declared.Outcome.the-variants.{Done, Refused}
+
+abbrev pub refusalNumber : Refusal → ℕ
+refusalNumber Size = 1
+refusalNumber NoGroup = 2
+refusalNumber NoCell = 3
+refusalNumber NoOrder = 4
+refusalNumber NoSymbol = 5
+refusalNumber Blank = 6
+refusalNumber Lost = 7
+refusalNumber Worn = 8
+refusalNumber CapUp = 9
+refusalNumber ListShort = 10
+refusalNumber Coordinate = 11
+refusalNumber BadRecord = 12
+
+abbrev pub outcomeNumber : Outcome → ℕ
+outcomeNumber Done = 0
+outcomeNumber (Refused refusal) = refusalNumber refusal
+
+unfoldable pub numberOf : List (Bool × Refusal) → ℕ
+numberOf [] = 0
+numberOf (check ∷ later) = cond (check .0) (numberOf later) (refusalNumber (check .1))
+
+abbrev pub ifDone : {A : Type 0} → ℕ → A → A → A
+ifDone zero result zeros = result
+ifDone (suc k) result zeros = zeros
+
+pub record Told (A : Type 0) : Type 0 where
+  pub number : ℕ
+  pub value : A
+
+unfoldable pub answer : {A : Type 0} → List (Bool × Refusal) → A → A → Told A
+answer checks result zeros = record { number = numberOf checks; value = ifDone (numberOf checks) result zeros }
+
+abbrev pub isSize : ℕ → Bool
+isSize n = leb 3 n && leb n 12

@@ -1,0 +1,390 @@
+// Cells, ranks and orders (document 01, "Cells, ranks, levels") and the refusal table.
+// Every public function takes any value and answers it by one equation with a definition of specs/: a refusal's number and
+// zeros, or the result. Proved besides: an order and its ranks undo each other, both ways (proofs/Inverses).
+ghost use mathlib.Core.Path.{_≡_};
+ghost use mathlib.Core.Bool.{true, cond};
+ghost use Prim.Native.Nat.{_-_, _/_, _%_, _^_, _≤_};
+ghost use lib.Dec.{eqb, ltb};
+ghost use lib.ListN.{length, drop, set};
+ghost use Rattle.order.specs.Refusals.{refusalNumber, outcomeNumber, numberOf, isSize};
+ghost use Rattle.order.specs.Cells.{isOrder, isListing, allZero, bitOf};
+ghost use Rattle.order.specs.Order.{cellNumbers, listed, isOrderOf, orderChecks, pairChecks, noOrder, orderRecord, toldOrder, orderOfCells, rankNumbers, rankChecks, ranksOf, orderByRank, toldRanks, ranksOfOrder, orderOfRanks};
+
+// A cell's number, from 1.
+pub struct Cell(pub u8);
+
+// A rank, from 1.
+pub struct Rank(pub u8);
+
+// The cells from highest level to lowest. Places past `len` are `Cell(0)`.
+pub struct Order {
+    pub len: usize,
+    pub cells: [Cell; 12],
+}
+
+// The rank of cell c at place c - 1. Places past `len` are `Rank(0)`.
+pub struct Ranks {
+    pub len: usize,
+    pub ranks: [Rank; 12],
+}
+
+// The words of document 01's refusal table, in its order.
+pub enum Refusal {
+    Size,
+    NoGroup,
+    NoCell,
+    NoOrder,
+    NoSymbol,
+    Blank,
+    Lost,
+    Worn,
+    CapUp,
+    ListShort,
+    Coordinate,
+    BadRecord,
+}
+
+pub enum Outcome {
+    Done,
+    Refused(Refusal),
+}
+
+pub struct OrderAnswer {
+    pub outcome: Outcome,
+    pub order: Order,
+}
+
+pub struct RanksAnswer {
+    pub outcome: Outcome,
+    pub ranks: Ranks,
+}
+
+impl Cell {
+    // The cell's number as an index.
+    pub fn number(self) -> usize
+        ensures { λ r. ⌜ r ≡ self .0 ⌝ }
+    {
+        self.0 as usize
+    }
+}
+
+impl Rank {
+    // The rank as an index.
+    pub fn number(self) -> usize
+        ensures { λ r. ⌜ r ≡ self .0 ⌝ }
+    {
+        self.0 as usize
+    }
+}
+
+// The number of a refusal in document 01's table.
+pub fn refusal_number(refusal: Refusal) -> u8
+    ensures { λ r. ⌜ r ≡ refusalNumber refusal ⌝ }
+{
+    match refusal {
+        Refusal::Size => 1,
+        Refusal::NoGroup => 2,
+        Refusal::NoCell => 3,
+        Refusal::NoOrder => 4,
+        Refusal::NoSymbol => 5,
+        Refusal::Blank => 6,
+        Refusal::Lost => 7,
+        Refusal::Worn => 8,
+        Refusal::CapUp => 9,
+        Refusal::ListShort => 10,
+        Refusal::Coordinate => 11,
+        Refusal::BadRecord => 12,
+    }
+}
+
+// The number of an outcome: 0 is done.
+pub fn outcome_number(outcome: Outcome) -> u8
+    ensures { λ r. ⌜ r ≡ outcomeNumber outcome ⌝ }
+{
+    match outcome {
+        Outcome::Done => 0,
+        Outcome::Refused(refusal) => refusal_number(refusal),
+    }
+}
+
+// Whether a group can have n cells.
+pub fn is_size(n: usize) -> bool
+    ensures { λ r. ⌜ r ≡ isSize n ⌝ }
+{
+    if 3 <= n { n <= 12 } else { false }
+}
+
+// The bit of cell c in a set of cells. A number that is no cell of any group has none.
+pub fn bit_of(c: usize) -> u32
+    ensures { λ r. ⌜ r ≡ bitOf c ⌝ }
+{
+    if c < 1 {
+        return 0;
+    }
+    if 12 < c {
+        return 0;
+    }
+    1u32 << (c - 1)
+}
+
+// Whether the record is an order of the cells 1 to n.
+pub fn is_order(o: Order, n: usize) -> bool
+    ensures { λ r. ⌜ r ≡ isOrderOf n o ⌝ }
+{
+    if o.len != n {
+        return false;
+    }
+    if 12 < n {
+        return false;
+    }
+    if lists_each_once(o) {
+        is_clear_past(o)
+    } else {
+        false
+    }
+}
+
+// Whether the listed cells are 1 to the length, each once. Swept from the last place, with the set of cells met.
+fn lists_each_once(o: Order) -> bool
+    requires { ⌜ o .len ≤ 12 ⌝ }
+    ensures { λ r. ⌜ r ≡ isOrder (o .len) (listed o) ⌝ }
+{
+    let n = o.len;
+    let mut met: u32 = 0;
+    let mut i = n;
+    while 0 < i {
+        i -= 1;
+        let c = o.cells[i].number();
+        if c == 0 {
+            return false;
+        }
+        if n < c {
+            return false;
+        }
+        if has(met, c) {
+            return false;
+        }
+        met += bit_of(c);
+    }
+    true
+}
+
+// Whether the set has cell c.
+fn has(met: u32, c: usize) -> bool
+    requires { ⌜ (1 ≤ c) × (c ≤ 12) ⌝ }
+    ensures { λ r. ⌜ r ≡ eqb (met / 2 ^ (c - 1) % 2) 1 ⌝ }
+{
+    (met >> (c - 1)) % 2 == 1
+}
+
+// Whether the places past the length hold no cell.
+fn is_clear_past(o: Order) -> bool
+    requires { ⌜ o .len ≤ 12 ⌝ }
+    ensures { λ r. ⌜ r ≡ allZero (drop (o .len) (cellNumbers o)) ⌝ }
+{
+    let mut i = o.len;
+    while i < 12 {
+        if o.cells[i].0 != 0 {
+            return false;
+        }
+        i += 1;
+    }
+    true
+}
+
+// The outcome for an order that is handed in without a group.
+pub fn check_order(o: Order) -> Outcome
+    ensures { λ r. ⌜ outcomeNumber r ≡ numberOf (orderChecks o) ⌝ }
+{
+    let n = o.len;
+    if !is_size(n) {
+        return Outcome::Refused(Refusal::Size);
+    }
+    if !is_order(o, n) {
+        return Outcome::Refused(Refusal::NoOrder);
+    }
+    Outcome::Done
+}
+
+// The outcome for two orders that are handed in without a group: n is the first one's length.
+pub fn check_pair(u: Order, v: Order) -> Outcome
+    ensures { λ r. ⌜ outcomeNumber r ≡ numberOf (pairChecks u v) ⌝ }
+{
+    let n = u.len;
+    if !is_size(n) {
+        return Outcome::Refused(Refusal::Size);
+    }
+    if !is_order(u, n) {
+        return Outcome::Refused(Refusal::NoOrder);
+    }
+    if !is_order(v, n) {
+        return Outcome::Refused(Refusal::NoOrder);
+    }
+    Outcome::Done
+}
+
+// The order of a list of cell numbers, from highest level to lowest.
+pub fn order_of(cells: &[u8]) -> OrderAnswer
+    ensures { λ r. ⌜ toldOrder r ≡ orderOfCells (now (cells .entry)) ⌝ }
+{
+    if !is_size(cells.len()) {
+        return no_order(Refusal::Size);
+    }
+    let order = order_with(cells);
+    if !is_order(order, cells.len()) {
+        return no_order(Refusal::NoOrder);
+    }
+    OrderAnswer {
+        outcome: Outcome::Done,
+        order,
+    }
+}
+
+// The record of a list of cell numbers.
+fn order_with(cells: &[u8]) -> Order
+    requires { ⌜ length (now cells) ≤ 12 ⌝ }
+    ensures { λ r. ⌜ r ≡ orderRecord (now (cells .entry)) ⌝ }
+{
+    let mut held = [Cell(0); 12];
+    let mut i = 0;
+    while i < cells.len() {
+        held[i] = Cell(cells[i]);
+        i += 1;
+    }
+    Order {
+        len: cells.len(),
+        cells: held,
+    }
+}
+
+// A refusal, with zeros for the order.
+fn no_order(refusal: Refusal) -> OrderAnswer
+    ensures { λ r. ⌜ r ≡ record { outcome = Outcome.Refused refusal; order = noOrder } ⌝ }
+{
+    OrderAnswer {
+        outcome: Outcome::Refused(refusal),
+        order: Order {
+            len: 0,
+            cells: [Cell(0); 12],
+        },
+    }
+}
+
+// The inverse of an order.
+pub fn ranks_of(o: Order) -> RanksAnswer
+    ensures { λ r. ⌜ toldRanks r ≡ ranksOfOrder o ⌝ }
+{
+    let outcome = check_order(o);
+    let Outcome::Done = outcome else {
+        return RanksAnswer {
+            outcome,
+            ranks: Ranks {
+                len: 0,
+                ranks: [Rank(0); 12],
+            },
+        };
+    };
+    RanksAnswer {
+        outcome: Outcome::Done,
+        ranks: ranks_by_sweep(o),
+    }
+}
+
+// The rank of each cell: a sweep from the last place to the first.
+fn ranks_by_sweep(o: Order) -> Ranks
+    requires { ⌜ (o .len ≤ 12) × (isOrder (o .len) (listed o) ≡ true) ⌝ }
+    ensures { λ r. ⌜ r ≡ ranksOf o ⌝ }
+{
+    let n = o.len;
+    let mut ranks = [Rank(0); 12];
+    let mut i = n;
+    while 0 < i {
+        let c = o.cells[i - 1].number();
+        ranks[c - 1] = Rank(i as u8);
+        i -= 1;
+    }
+    Ranks {
+        len: n,
+        ranks: ranks,
+    }
+}
+
+// The order of given ranks.
+pub fn from_ranks(r: Ranks) -> OrderAnswer
+    ensures { λ a. ⌜ toldOrder a ≡ orderOfRanks r ⌝ }
+{
+    let n = r.len;
+    if !is_size(n) {
+        return no_order(Refusal::Size);
+    }
+    if !are_ranks(r) {
+        return no_order(Refusal::NoOrder);
+    }
+    OrderAnswer {
+        outcome: Outcome::Done,
+        order: cells_by_sweep(r),
+    }
+}
+
+// Whether the ranks are 1 to the length, each once: their inverse then lists each cell once.
+fn are_ranks(r: Ranks) -> bool
+    requires { ⌜ r .len ≤ 12 ⌝ }
+    ensures { λ b. ⌜ b ≡ isListing (r .len) (r .len) (rankNumbers r) ⌝ }
+{
+    let n = r.len;
+    if is_order(cells_by_sweep(r), n) {
+        ranks_are_clear_past(r)
+    } else {
+        false
+    }
+}
+
+// Whether the places past the length hold no rank.
+fn ranks_are_clear_past(r: Ranks) -> bool
+    requires { ⌜ r .len ≤ 12 ⌝ }
+    ensures { λ b. ⌜ b ≡ allZero (drop (r .len) (rankNumbers r)) ⌝ }
+{
+    let mut i = r.len;
+    while i < 12 {
+        if r.ranks[i].0 != 0 {
+            return false;
+        }
+        i += 1;
+    }
+    true
+}
+
+// The cell of each rank: a sweep from the last cell to the first.
+fn cells_by_sweep(r: Ranks) -> Order
+    requires { ⌜ r .len ≤ 12 ⌝ }
+    ensures { λ o. ⌜ o ≡ orderByRank r ⌝ }
+{
+    let n = r.len;
+    let mut cells = [Cell(0); 12];
+    let mut c = n;
+    while 0 < c {
+        let k = r.ranks[c - 1].number();
+        let next = with_cell_ranked(cells, k, Cell(c as u8));
+        cells = next;
+        c -= 1;
+    }
+    Order {
+        len: n,
+        cells: cells,
+    }
+}
+
+// The cells with cell c at the place of rank k. A rank outside 1 to 12 has no place.
+fn with_cell_ranked(cells: [Cell; 12], k: usize, c: Cell) -> [Cell; 12]
+    ensures { λ r. ⌜ r ≡ cond (ltb k 1) cells (set cells (k - 1) c) ⌝ }
+{
+    if k < 1 {
+        return cells;
+    }
+    if 12 < k {
+        return cells;
+    }
+    let mut next = cells;
+    next[k - 1] = c;
+    next
+}
