@@ -1,0 +1,68 @@
+-- The check that coordinates are in range, and what it tells.
+-- Assumes nothing.
+use Prim.Native.Nat.{ℕ, zero, suc, _+_, _≤_, _<_}
+use native.Mathlib.Nat.{not-suc-le-zero, le-of-suc-le-suc, add-zero}
+use native.Mathlib.Numerals.{add-one}
+use native.Mathlib.Omega.{arith}
+use mathlib.Core.Path.{_≡_, refl, sym, ap, _∙_}
+use mathlib.Core.Bool.{true, false, _&&_}
+use mathlib.Core.List.{List, [], _∷_}
+use lib.ListN.{length, getD, drop, drop-of-length-le}
+use lib.Dec.{leb}
+use borrow.Author.Tests.{le-leb, lt-leb, leb-true}
+use Rattle.coordinates.specs.declared.Coordinates.{Coordinates}
+use Rattle.coordinates.specs.Coordinates.{inRange, largest}
+use Rattle.order.proofs.Cells.{both}
+use Rattle.order.proofs.Numbers.{drop-up}
+
+-- the first k coordinates are in range
+pub record RangedTo (x : Coordinates) (k : ℕ) : Type 0 where
+  pub whole : length (x .values) ≡ 11
+  pub left : k ≤ 11
+  pub same : inRange (x .len) (k + 1) (drop k (x .values)) ≡ inRange (x .len) 1 (x .values)
+
+pub ranged-none : (x : Coordinates) → length (x .values) ≡ 11 → RangedTo x 0
+ranged-none x w = record { whole = w; left = omega arith; same = refl }
+
+module _ {x : Coordinates} {k : ℕ} (t : RangedTo x k) where
+  ranged-step : k < 11
+      → inRange (x .len) (k + 1) (drop k (x .values))
+      ≡ leb (getD (x .values) k 0) (largest (x .len) (k + 1)) && inRange (x .len) (k + 1 + 1) (drop (k + 1) (x .values))
+  unfolding inRange
+  ranged-step l = ap (inRange (x .len) (k + 1)) (drop-up (x .values) k (omega (arith, t .whole))) ∙ rw (add-one (k + 1))
+
+  module _ (l : k < 11) {v : ℕ} (at : v ≡ getD (x .values) k 0) {m : ℕ} (top : m ≡ largest (x .len) (k + 1)) where
+    pub ranged-more : v ≤ m → RangedTo x (k + 1)
+    ranged-more h = record { whole = t .whole; left = omega arith; same = sym (ranged-step l ∙ rw (← at, ← top, le-leb v m h)) ∙ t .same }
+
+    pub ranged-not : m < v → false ≡ inRange (x .len) 1 (x .values)
+    ranged-not h = sym (ranged-step l ∙ rw (← at, ← top, lt-leb v m h)) ∙ t .same
+
+  pub ranged-all : 11 ≤ k → true ≡ inRange (x .len) 1 (x .values)
+  unfolding inRange
+  ranged-all l = sym (ap (inRange (x .len) (k + 1)) (drop-of-length-le (x .values) {i = k} (omega (arith, t .whole)))) ∙ t .same
+
+-- ---- what it tells of a value
+
+range-at : (m i k : ℕ) (xs : List ℕ) → inRange m i xs ≡ true → k < length xs → getD xs k 0 ≤ largest m (i + k)
+unfolding inRange
+range-at m i k [] e l = absurd (not-suc-le-zero l)
+range-at m i zero (x ∷ xs) e l = rw add-zero (leb-true x (largest m i) (both (leb x (largest m i)) (inRange m (suc i) xs) e .0))
+range-at m i (suc k) (x ∷ xs) e l =
+    let next : i + suc k ≡ suc i + k = omega arith in
+    rw next (range-at m (suc i) k xs (both (leb x (largest m i)) (inRange m (suc i) xs) e .1) (le-of-suc-le-suc l))
+
+module _ (x : Coordinates) (w : length (x .values) ≡ 11) (r : inRange (x .len) 1 (x .values) ≡ true) (k : ℕ) (l : k < 11) where
+  pub value-low : k < x .len → getD (x .values) k 0 ≤ suc k
+  value-low h = omega (arith, rw (le-leb (1 + k) (x .len) (omega arith)) at (range-at (x .len) 1 k (x .values) r (omega arith)))
+
+  pub value-past : x .len ≤ k → getD (x .values) k 0 ≡ 0
+  value-past h = omega (arith, rw (lt-leb (1 + k) (x .len) (omega arith)) at (range-at (x .len) 1 k (x .values) r (omega arith)))
+
+pub all-in-range : (m i : ℕ) (xs : List ℕ) → ((k : ℕ) → k < length xs → getD xs k 0 ≤ largest m (i + k)) → inRange m i xs ≡ true
+unfolding inRange
+all-in-range m i [] h = refl
+all-in-range m i (x ∷ xs) h =
+    let first : x ≤ largest m i = rw add-zero at (h 0 (omega arith)) in
+    rw (le-leb x (largest m i) first)
+    (all-in-range m (suc i) xs (λ k l. let e : i + suc k ≡ suc i + k = omega arith in rw e at (h (suc k) (omega arith))))

@@ -1,0 +1,13 @@
+-- What an answer says in the refusal table's terms determines the answer.
+-- Assumes nothing.
+use mathlib.Core.Path.{_≡_, ap}
+use Rattle.order.specs.Refusals.{Told}
+use Rattle.order.proofs.Refusals.{outcome-by-number}
+use Rattle.coordinates.specs.declared.Coordinates.{Coordinates}
+use Rattle.coordinates.specs.declared.CoordinatesAnswer.{CoordinatesAnswer}
+use Rattle.coordinates.specs.Calls.{toldCoordinates}
+
+pub told-coordinates : (a b : CoordinatesAnswer) → toldCoordinates a ≡ toldCoordinates b → a ≡ b
+told-coordinates a b e =
+    let same = outcome-by-number (a .outcome) (b .outcome) (ap (λ (t : Told Coordinates). t .number) e) in
+    λ i. record { outcome = same i; coordinates = ap (λ (t : Told Coordinates). t .value) e i }

@@ -1,0 +1,90 @@
+-- `coordinates::coordinates_by_sweep` meets its contract. The loop's invariant: `met` holds the cells from place `i` on, and `values` has their coordinates, 0 for the other cells.
+-- Assumes nothing.
+use borrow.Author.Needs.{needs}
+use Prim.Native.Nat.{_-_, _^_}
+use mathlib.Core.Path.{_≡_, _∙_}
+use Rattle.order.specs.Order.{cellNumbers}
+use Rattle.order.proofs.Numbers.{length-mapped, length-places, place-at}
+use Rattle.order.proofs.Mask.{bit-of-cell}
+use Rattle.order.proofs.Sweep.{Turn}
+use Rattle.coordinates.specs.Calls.{coordinatesOf}
+use Rattle.coordinates.proofs.Counting.{Counted, counted-none, counted-low, counted-high, counted-fits, counted-more, counted-all}
+use Rattle.coordinates.proofs.coordinates_by_sweep.Statement.{statement}
+use Rattle.coordinates.proofs.coordinates_by_sweep.Tie as tie
+
+abbrev Inv-loop : tie.InvT-loop
+Inv-loop o n met₀ values₀ i₀ met values i = Counted (cellNumbers o) (o .len) met values i
+
+abbrev μ-loop : tie.MeasureT-loop
+μ-loop o n met₀ values₀ i₀ met values i = i
+
+-- the turn at the cell that is read
+turn : (c : tie.After-number Inv-loop μ-loop) →
+    let at = c .before .before .before in
+    let o = at .before .args .t1 in
+    Turn (Counted (cellNumbers o) (o .len) (at .loop .met) (at .loop .values) (at .loop .i)) (cellNumbers o) (at .loop .i) (c .number .result)
+turn c = record { state = c .before .before .before .loop .inv; more = c .before .before .loop-test .taken; at = c .number .ensures ∙ place-at _ _ }
+
+loop-holds : tie.Need-loop-holds Inv-loop μ-loop
+loop-holds c = counted-none _ _ (length-places _ (search length-mapped)) (c .pre .1) (c .pre .2)
+
+sub-i : tie.Need-sub-i Inv-loop μ-loop
+sub-i c = search needs
+
+element-copy-out-number : tie.Need-element-copy-out-number Inv-loop μ-loop
+element-copy-out-number c = search needs
+
+number-requires : tie.Need-number-requires Inv-loop μ-loop
+number-requires c κs = search needs
+
+count-below-requires : tie.Need-count-below-requires Inv-loop μ-loop
+count-below-requires c κs = (counted-low (turn c), counted-high (turn c))
+
+with-coordinate-requires : tie.Need-with-coordinate-requires Inv-loop μ-loop
+with-coordinate-requires c κs = counted-high (turn (c .before))
+
+bit-of-requires : tie.Need-bit-of-requires Inv-loop μ-loop
+bit-of-requires c κs = search needs
+
+-- the bit that is added
+bit : (c : tie.After-bit-of Inv-loop μ-loop) → c .bit-of .result ≡ 2 ^ (c .before .before .before .number .result - 1)
+bit c =
+    let t = turn (c .before .before .before) in
+    c .bit-of .ensures ∙ bit-of-cell _ (counted-low t) (counted-high t)
+
+add-met : tie.Need-add-met Inv-loop μ-loop
+add-met c = counted-fits (turn (c .before .before .before)) (bit c)
+
+loop-less : tie.Need-loop-less Inv-loop μ-loop
+loop-less c = search needs
+
+loop-again : tie.Need-loop-again Inv-loop μ-loop
+loop-again c =
+    rw (bit c, c .before .with-coordinate .ensures, c .before .before .count-below .ensures)
+    (counted-more (turn (c .before .before .before)))
+
+sub-t15 : tie.Need-sub-t15 Inv-loop μ-loop
+sub-t15 c = search needs
+
+returns : tie.Need-returns Inv-loop μ-loop
+unfolding coordinatesOf
+returns c = rw (counted-all (c .before .loop .inv) (c .loop-test .left))
+
+pub coordinates-by-sweep-spec : {M : Type 1} → statement M
+coordinates-by-sweep-spec =
+    tie.close
+    (tie.spec
+    Inv-loop
+    μ-loop
+    loop-holds
+    sub-i
+    element-copy-out-number
+    number-requires
+    count-below-requires
+    with-coordinate-requires
+    bit-of-requires
+    add-met
+    loop-less
+    loop-again
+    sub-t15
+    returns)

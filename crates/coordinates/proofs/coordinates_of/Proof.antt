@@ -1,0 +1,44 @@
+-- `coordinates::coordinates_of` meets its contract.
+-- Assumes nothing.
+use borrow.Author.Needs.{needs}
+use native.Mathlib.Omega.{arith}
+use Rattle.order.proofs.Refusals.{accepted, passed-on, told-done}
+use Rattle.order.proofs.Records.{passed, passed-listed}
+use Rattle.coordinates.specs.Calls.{coordinatesOfOrder}
+use Rattle.coordinates.proofs.coordinates_of.Statement.{statement}
+use Rattle.coordinates.proofs.coordinates_of.Tie as tie
+
+check-order-requires : tie.Need-check-order-requires
+check-order-requires c κs = search needs
+
+enum-told : tie.Need-enum-told
+enum-told c = search needs
+
+enum-told-2 : tie.Need-enum-told-2
+enum-told-2 c = search needs
+
+returns : tie.Need-returns
+unfolding coordinatesOfOrder
+returns c = passed-on _ _ _ _ (c .before .before .check-order .ensures) _ (c .enum-told2 .given .1)
+
+coordinates-by-sweep-requires : tie.Need-coordinates-by-sweep-requires
+coordinates-by-sweep-requires c κs =
+    let d = accepted (c .before .before .check-order .ensures) (c .enum-told .given .1) in
+    (omega (arith, passed (c .before .before .before .args .o) d .0), passed _ d .1, passed-listed _ d)
+
+returns-2 : tie.Need-returns-2
+unfolding coordinatesOfOrder
+returns-2 c =
+    rw (c .coordinates-by-sweep .ensures)
+    (told-done _ _ _ (accepted (c .before .before .before .check-order .ensures) (c .before .enum-told .given .1)))
+
+pub coordinates-of-spec : {M : Type 1} → statement M
+coordinates-of-spec =
+    tie.close
+    (tie.spec
+    check-order-requires
+    enum-told
+    enum-told-2
+    returns
+    coordinates-by-sweep-requires
+    returns-2)

@@ -1,0 +1,18 @@
+-- `coordinates::with_coordinate` meets its contract.
+-- Assumes nothing.
+use borrow.Author.Needs.{needs}
+use borrow.Author.Tests.{lt-ltb, le-ltb}
+use Rattle.coordinates.proofs.with_coordinate.Statement.{statement}
+use Rattle.coordinates.proofs.with_coordinate.Tie as tie
+
+returns : tie.Need-returns
+returns c = rw (lt-ltb _ _ (c .if1 .taken))
+
+array-write-next : tie.Need-array-write-next
+array-write-next c = search needs
+
+returns-2 : tie.Need-returns-2
+returns-2 c = rw (le-ltb _ _ (c .if1 .left))
+
+pub with-coordinate-spec : {M : Type 1} → statement M
+with-coordinate-spec = tie.close (tie.spec returns array-write-next returns-2)
