@@ -1,0 +1,13 @@
+pub mod Counts
+pub mod Exchange
+pub mod Opposed
+pub mod Recursion
+pub mod Apart
+pub mod Search
+pub mod Gap
+pub mod Step
+pub mod Pair
+pub mod Theorems
+pub mod Told
+pub mod Bench
+pub mod OneCoordinate
