@@ -1,0 +1,45 @@
+-- `cost::displacements` meets its contract.
+-- Assumes nothing.
+use borrow.Author.Needs.{needs}
+use Rattle.order.proofs.Refusals.{passed-on, told-done}
+use Rattle.cost.specs.Cost.{displacementsOf}
+use Rattle.cost.proofs.Pairs.{pair-number, pair-done, pair-low}
+use Rattle.cost.proofs.ByRank.{displacements-ranked}
+use Rattle.cost.proofs.displacements.Statement.{statement}
+use Rattle.cost.proofs.displacements.Tie as tie
+
+ranks-of-pair-requires : tie.Need-ranks-of-pair-requires
+ranks-of-pair-requires c κs = search needs
+
+enum-told : tie.Need-enum-told
+enum-told c = search needs
+
+enum-told-2 : tie.Need-enum-told-2
+enum-told-2 c = search needs
+
+returns : tie.Need-returns
+unfolding displacementsOf
+returns c = passed-on _ _ _ _ (pair-number _ _ (c .before .before .ranks-of-pair .result) (c .before .before .ranks-of-pair .ensures)) _ (c .enum-told2 .given .1)
+
+displacements-by-rank-requires : tie.Need-displacements-by-rank-requires
+displacements-by-rank-requires c κs =
+    let p = pair-low _ _ _ (c .before .before .ranks-of-pair .ensures) (c .enum-told .given .1) in
+    (p .1, p .2)
+
+returns-2 : tie.Need-returns-2
+unfolding displacementsOf
+returns-2 c =
+    let a = c .before .before .before .before .args in
+    let p = pair-done (a .u) (a .v) _ (c .before .before .before .ranks-of-pair .ensures) (c .before .enum-told .given .1) in
+    rw (c .displacements-by-rank .ensures, p .1, p .2, displacements-ranked (a .u) (a .v)) (told-done _ _ _ (p .0))
+
+pub displacements-spec : {M : Type 1} → statement M
+displacements-spec =
+    tie.close
+    (tie.spec
+    ranks-of-pair-requires
+    enum-told
+    enum-told-2
+    returns
+    displacements-by-rank-requires
+    returns-2)

@@ -1,0 +1,67 @@
+-- `cost::largest_rise` meets its contract. The loop's invariant: `most` is the largest rise of the cells before place `i`.
+-- Assumes nothing.
+use borrow.Author.Needs.{needs}
+use Prim.Native.Nat.{_-_}
+use native.Mathlib.Omega.{arith}
+use mathlib.Core.Logic.{⊎-elim}
+use Rattle.order.proofs.Numbers.{rank-at}
+use Rattle.cost.proofs.Loops.{Risen, risen-none, risen-kept, risen-more, risen-all}
+use Rattle.cost.proofs.largest_rise.Statement.{statement}
+use Rattle.cost.proofs.largest_rise.Tie as tie
+
+abbrev Inv-loop : tie.InvT-loop
+Inv-loop from to n most₀ i₀ most i = Risen from to most i
+
+abbrev μ-loop : tie.MeasureT-loop
+μ-loop from to n most₀ i₀ most i = n - i
+
+loop-holds : tie.Need-loop-holds Inv-loop μ-loop
+loop-holds c = risen-none _ _
+
+element-copy-out-before : tie.Need-element-copy-out-before Inv-loop μ-loop
+element-copy-out-before c = search needs
+
+element-copy-out-after : tie.Need-element-copy-out-after Inv-loop μ-loop
+element-copy-out-after c = search needs
+
+add-if1 : tie.Need-add-if1 Inv-loop μ-loop
+add-if1 c =
+    let start = c .before .before in
+    let i = c .before .loop .i in
+    record { fits = omega (arith, rank-at (start .args .t1) i, start .pre .1 .low i, c .before .loop .inv .small) }
+
+sub-most : tie.Need-sub-most Inv-loop μ-loop
+sub-most c = search needs
+
+add-i : tie.Need-add-i Inv-loop μ-loop
+add-i c = search needs
+
+loop-less : tie.Need-loop-less Inv-loop μ-loop
+loop-less c = search needs
+
+loop-again : tie.Need-loop-again Inv-loop μ-loop
+loop-again c =
+    let s = c .before .before .loop .inv in
+    let l = c .before .loop-test .taken in
+    ⊎-elim (λ w. rw (w .1) (risen-more s l (rank-at _ _) (rank-at _ _) (w .0 .taken) (c .before .before .before .pre .2)))
+    (λ w. rw (w .1) (risen-kept s l (rank-at _ _) (rank-at _ _) (w .0 .left)))
+    (c .if1 .came)
+
+returns : tie.Need-returns Inv-loop μ-loop
+returns c = risen-all (c .before .loop .inv) (c .loop-test .left)
+
+pub largest-rise-spec : {M : Type 1} → statement M
+largest-rise-spec =
+    tie.close
+    (tie.spec
+    Inv-loop
+    μ-loop
+    loop-holds
+    element-copy-out-before
+    element-copy-out-after
+    add-if1
+    sub-most
+    add-i
+    loop-less
+    loop-again
+    returns)
