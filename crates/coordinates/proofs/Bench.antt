@@ -8,7 +8,7 @@ use Rattle.order.specs.Order.{cellNumbers, orderRecord, noOrder}
 use Rattle.coordinates.specs.Coordinates.{coordinateOf, coordinatesTo, orderFrom, inRange}
 use Rattle.coordinates.specs.Calls.{coordinatesOf, orderByCoordinates, noCoordinates, coordinatesOfOrder, orderOfCoordinates}
 
--- cases 3 and 7
+-- the coordinates of cases 3 and 7
 cases : (coordinatesTo 3 (3 ∷ 4 ∷ 1 ∷ 2 ∷ []) ≡ 0 ∷ 2 ∷ 2 ∷ []) × (coordinatesTo 3 (3 ∷ 2 ∷ 4 ∷ 1 ∷ []) ≡ 1 ∷ 2 ∷ 1 ∷ [])
 unfolding coordinatesTo coordinateOf
 cases = (refl, refl)

@@ -6,3 +6,4 @@ pub mod Build
 pub mod Told
 pub mod Determine
 pub mod Bench
+pub mod Row

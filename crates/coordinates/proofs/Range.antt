@@ -11,7 +11,7 @@ use lib.ListN.{length, getD, drop, drop-of-length-le}
 use lib.Dec.{leb}
 use borrow.Author.Tests.{le-leb, lt-leb, leb-true}
 use Rattle.coordinates.specs.declared.Coordinates.{Coordinates}
-use Rattle.coordinates.specs.Coordinates.{inRange, largest}
+use Rattle.coordinates.specs.Coordinates.{inRange, limit}
 use Rattle.order.proofs.Cells.{both}
 use Rattle.order.proofs.Numbers.{drop-up}
 
@@ -27,11 +27,11 @@ ranged-none x w = record { whole = w; left = omega arith; same = refl }
 module _ {x : Coordinates} {k : ℕ} (t : RangedTo x k) where
   ranged-step : k < 11
       → inRange (x .len) (k + 1) (drop k (x .values))
-      ≡ leb (getD (x .values) k 0) (largest (x .len) (k + 1)) && inRange (x .len) (k + 1 + 1) (drop (k + 1) (x .values))
+      ≡ leb (getD (x .values) k 0) (limit (x .len) (k + 1)) && inRange (x .len) (k + 1 + 1) (drop (k + 1) (x .values))
   unfolding inRange
   ranged-step l = ap (inRange (x .len) (k + 1)) (drop-up (x .values) k (omega (arith, t .whole))) ∙ rw (add-one (k + 1))
 
-  module _ (l : k < 11) {v : ℕ} (at : v ≡ getD (x .values) k 0) {m : ℕ} (top : m ≡ largest (x .len) (k + 1)) where
+  module _ (l : k < 11) {v : ℕ} (at : v ≡ getD (x .values) k 0) {m : ℕ} (top : m ≡ limit (x .len) (k + 1)) where
     pub ranged-more : v ≤ m → RangedTo x (k + 1)
     ranged-more h = record { whole = t .whole; left = omega arith; same = sym (ranged-step l ∙ rw (← at, ← top, le-leb v m h)) ∙ t .same }
 
@@ -44,13 +44,13 @@ module _ {x : Coordinates} {k : ℕ} (t : RangedTo x k) where
 
 -- ---- what it tells of a value
 
-range-at : (m i k : ℕ) (xs : List ℕ) → inRange m i xs ≡ true → k < length xs → getD xs k 0 ≤ largest m (i + k)
+range-at : (m i k : ℕ) (xs : List ℕ) → inRange m i xs ≡ true → k < length xs → getD xs k 0 ≤ limit m (i + k)
 unfolding inRange
 range-at m i k [] e l = absurd (not-suc-le-zero l)
-range-at m i zero (x ∷ xs) e l = rw add-zero (leb-true x (largest m i) (both (leb x (largest m i)) (inRange m (suc i) xs) e .0))
+range-at m i zero (x ∷ xs) e l = rw add-zero (leb-true x (limit m i) (both (leb x (limit m i)) (inRange m (suc i) xs) e .0))
 range-at m i (suc k) (x ∷ xs) e l =
     let next : i + suc k ≡ suc i + k = omega arith in
-    rw next (range-at m (suc i) k xs (both (leb x (largest m i)) (inRange m (suc i) xs) e .1) (le-of-suc-le-suc l))
+    rw next (range-at m (suc i) k xs (both (leb x (limit m i)) (inRange m (suc i) xs) e .1) (le-of-suc-le-suc l))
 
 module _ (x : Coordinates) (w : length (x .values) ≡ 11) (r : inRange (x .len) 1 (x .values) ≡ true) (k : ℕ) (l : k < 11) where
   pub value-low : k < x .len → getD (x .values) k 0 ≤ suc k
@@ -59,10 +59,10 @@ module _ (x : Coordinates) (w : length (x .values) ≡ 11) (r : inRange (x .len)
   pub value-past : x .len ≤ k → getD (x .values) k 0 ≡ 0
   value-past h = omega (arith, rw (lt-leb (1 + k) (x .len) (omega arith)) at (range-at (x .len) 1 k (x .values) r (omega arith)))
 
-pub all-in-range : (m i : ℕ) (xs : List ℕ) → ((k : ℕ) → k < length xs → getD xs k 0 ≤ largest m (i + k)) → inRange m i xs ≡ true
+pub all-in-range : (m i : ℕ) (xs : List ℕ) → ((k : ℕ) → k < length xs → getD xs k 0 ≤ limit m (i + k)) → inRange m i xs ≡ true
 unfolding inRange
 all-in-range m i [] h = refl
 all-in-range m i (x ∷ xs) h =
-    let first : x ≤ largest m i = rw add-zero at (h 0 (omega arith)) in
-    rw (le-leb x (largest m i) first)
+    let first : x ≤ limit m i = rw add-zero at (h 0 (omega arith)) in
+    rw (le-leb x (limit m i) first)
     (all-in-range m (suc i) xs (λ k l. let e : i + suc k ≡ suc i + k = omega arith in rw e at (h (suc k) (omega arith))))

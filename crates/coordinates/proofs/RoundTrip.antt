@@ -1,5 +1,5 @@
 -- Coordinates are in range, and coordinates and order determine each other: over lists of cell numbers.
--- The laws are stated for `IsOrder`; those at the end are the same for `isOrder`.
+-- The laws are stated for `IsOrder`; those at the end speak of `isOrder`.
 -- Assumes nothing.
 use Prim.Native.Nat.{ℕ, zero, suc, _+_, _-_, _≤_, _<_}
 use native.Mathlib.Nat.{not-suc-le-zero, le-of-suc-le-suc, suc-ne-zero, eq-or-lt-of-le}

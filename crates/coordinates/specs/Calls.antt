@@ -1,6 +1,6 @@
 -- The record of coordinates, and what the calls on it answer.
 --
---   coordinatesOf o          the coordinates of an order: coordinate i stands at place i - 1, and later places are 0
+--   coordinatesOf o          the coordinates of an order: coordinate i at index i - 1, then zeros
 --   coordinateAt values i    coordinate i of the record; cell 1, which has none, has 0
 --   orderByCoordinates x     the order that has the coordinates
 --   coordinateChecks x       the checks of coordinates that are handed in: n is one more than their number

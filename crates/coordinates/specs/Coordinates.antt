@@ -3,11 +3,11 @@
 --   after c xs          what stands after c in the list: nothing where c is not there
 --   coordinateOf xs i   coordinate i: the number of cells below i + 1 in number that stand after cell i + 1
 --   coordinatesTo m xs  coordinates 1 to m
---   insertAt k c xs     the list with c put in before place k, counted from 0
---   orderFrom x n       the order of the cells 1 to n that has the coordinates x 1 to x (n - 1): cell i + 1 is put in with
---                       x i of the cells 1 to i after it
---   largest m i         the largest that coordinate i of m can be: i, and 0 in the places past the m coordinates
---   inRange m i xs      the values from coordinate i on, of m coordinates, run from 0 to their largest
+--   insertAt k c xs     the list with c put in after its first k elements
+--   orderFrom x n       the order of the cells 1 to n made of x 1 to x (n - 1): cell i + 1 is put in with x i of the cells 1 to i
+--                       after it. Where each x i is at most i, these are its coordinates
+--   limit m i           the largest that coordinate i of m can be: i, and 0 past the m coordinates
+--   inRange m i xs      the values from coordinate i on, of m coordinates, run from 0 to their limit
 use Prim.Native.Nat.{ℕ, zero, suc, _-_}
 use mathlib.Core.Bool.{Bool, true, _&&_, cond}
 use mathlib.Core.List.{List, [], _∷_, _++_}
@@ -32,9 +32,9 @@ unfoldable pub orderFrom : (ℕ → ℕ) → ℕ → List ℕ
 orderFrom x zero = []
 orderFrom x (suc i) = insertAt (i - x i) (suc i) (orderFrom x i)
 
-abbrev pub largest : ℕ → ℕ → ℕ
-largest m i = cond (leb i m) i 0
+abbrev pub limit : ℕ → ℕ → ℕ
+limit m i = cond (leb i m) i 0
 
 unfoldable pub inRange : ℕ → ℕ → List ℕ → Bool
 inRange m i [] = true
-inRange m i (x ∷ xs) = leb x (largest m i) && inRange m (suc i) xs
+inRange m i (x ∷ xs) = leb x (limit m i) && inRange m (suc i) xs

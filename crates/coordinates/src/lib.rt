@@ -15,10 +15,10 @@ ghost use lib.ListN.{take, set};
 ghost use Rattle.order.specs.Refusals.{outcomeNumber, numberOf};
 ghost use Rattle.order.specs.Cells.{isOrder};
 ghost use Rattle.order.specs.Order.{listed, toldOrder};
-ghost use Rattle.coordinates.specs.Coordinates.{insertAt, largest, inRange};
+ghost use Rattle.coordinates.specs.Coordinates.{insertAt, limit, inRange};
 ghost use Rattle.coordinates.specs.Calls.{coordinatesOf, orderByCoordinates, coordinateChecks, toldCoordinates, coordinatesOfOrder, orderOfCoordinates};
 
-// Coordinate i of an order at place i - 1. Places past `len` are 0.
+// Coordinate i of an order at index i - 1. Indices from `len` on hold 0.
 pub struct Coordinates {
     pub len: usize,
     pub values: [u8; 11],
@@ -133,7 +133,7 @@ fn are_in_range(x: Coordinates) -> bool
     let m = x.len;
     let mut k: usize = 0;
     while k < 11 {
-        if largest_of(m, k + 1) < wide(x.values[k]) {
+        if limit_of(m, k + 1) < wide(x.values[k]) {
             return false;
         }
         k += 1;
@@ -142,8 +142,8 @@ fn are_in_range(x: Coordinates) -> bool
 }
 
 // The largest that coordinate i of m can be.
-fn largest_of(m: usize, i: usize) -> usize
-    ensures { λ r. ⌜ r ≡ largest m i ⌝ }
+fn limit_of(m: usize, i: usize) -> usize
+    ensures { λ r. ⌜ r ≡ limit m i ⌝ }
 {
     if i <= m { i } else { 0 }
 }
@@ -173,7 +173,7 @@ fn order_by_insertion(x: Coordinates) -> Order
     Order { len: n, cells }
 }
 
-// The cells with c put in before a place. The cell in the last place falls out.
+// The cells with c put in at an index. The last one falls out.
 fn with_cell(cells: [Cell; 12], at: usize, c: Cell) -> [Cell; 12]
     requires { ⌜ at < 12 ⌝ }
     ensures { λ r. ⌜ r ≡ take 12 (insertAt at c cells) ⌝ }

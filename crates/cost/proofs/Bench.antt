@@ -1,4 +1,4 @@
--- Document 01's worked cases 1 and 2, and a case in which an order is not its own list of ranks, by computation.
+-- The cost of document 01's starred case 1, the displacements of case 2, and a case in which an order is not its own list of ranks.
 -- Assumes nothing.
 use mathlib.Core.Path.{_≡_, refl}
 use mathlib.Core.List.{[], _∷_}

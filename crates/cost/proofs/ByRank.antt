@@ -13,7 +13,7 @@ use Rattle.order.specs.Order.{listed, pairChecks, rankNumbers, ranksOf}
 use Rattle.order.proofs.Tabulate.{tabulate-ext}
 use Rattle.order.proofs.Pairs.{pair-size, first-order, second-order}
 use Rattle.cost.specs.Cost.{displacement, displacements, cost}
-use Rattle.cost.specs.Steps.{displacementsByRank, Rises, LargestRise}
+use Rattle.cost.specs.Steps.{displacementsByRank, Grows, LargestGrowth}
 use Rattle.cost.proofs.Signs.{≤ℤ-antisym, sub-rise, sub-most}
 use Rattle.cost.proofs.Costs.{IsLargest, cost-largest, cost-at-least-zero}
 use Rattle.cost.proofs.Pairs.{rank-place}
@@ -22,7 +22,7 @@ pub displacements-ranked : (u v : Order) → displacementsByRank (ranksOf u) (ra
 unfolding displacementsByRank displacements displacement
 displacements-ranked u v = tabulate-ext 12 _ _ (λ k l. ap₂ subℕ (rank-place v k l) (rank-place u k l))
 
-module _ (u v : Order) (d : numberOf (pairChecks u v) ≡ 0) (most : ℕ) (r : LargestRise (rankNumbers (ranksOf u)) (rankNumbers (ranksOf v)) (u .len) most) where
+module _ (u v : Order) (d : numberOf (pairChecks u v) ≡ 0) (most : ℕ) (r : LargestGrowth (rankNumbers (ranksOf u)) (rankNumbers (ranksOf v)) (u .len) most) where
   largest : IsLargest (u .len) (listed u) (listed v) (cost (u .len) (listed u) (listed v))
   largest = cost-largest (u .len) (listed u) (listed v) (omega (arith, pair-size u v d))
 
@@ -36,18 +36,18 @@ module _ (u v : Order) (d : numberOf (pairChecks u v) ≡ 0) (most : ℕ) (r : L
       (r .over (c - 1) (omega arith)))
 
   -- the largest rise is a cell's displacement
-  reached : (s : Rises (rankNumbers (ranksOf u)) (rankNumbers (ranksOf v)) (u .len) most) → displacement (listed u) (listed v) (suc (s .place)) ≡ pos most
+  reached : (s : Grows (rankNumbers (ranksOf u)) (rankNumbers (ranksOf v)) (u .len) most) → displacement (listed u) (listed v) (suc (s .index)) ≡ pos most
   unfolding displacement
   reached s =
-      let k : s .place < 12 = omega (arith, s .inside, pair-size u v d) in
-      sub-rise (placeOf (listed v) (suc (s .place))) (placeOf (listed u) (suc (s .place))) most
-      (omega (arith, s .by, rank-place u (s .place) k, rank-place v (s .place) k))
+      let k : s .index < 12 = omega (arith, s .inside, pair-size u v d) in
+      sub-rise (placeOf (listed v) (suc (s .index))) (placeOf (listed u) (suc (s .index))) most
+      (omega (arith, s .by, rank-place u (s .index) k, rank-place v (s .index) k))
 
   pub cost-ranked : pos most ≡ cost (u .len) (listed u) (listed v)
   cost-ranked =
       ≤ℤ-antisym
       (⊎-elim
       (λ z. rw z (cost-at-least-zero (u .len) (listed u) (listed v) (omega (arith, pair-size u v d)) (first-order u v d) (second-order u v d)))
-      (λ s. rw (reached s) at (largest .over (suc (s .place)) (omega arith) (s .inside)))
+      (λ s. rw (reached s) at (largest .over (suc (s .index)) (omega arith) (s .inside)))
       (r .some))
       (rw (largest .there) at (at-most (largest .cell) (largest .from) (largest .upTo)))

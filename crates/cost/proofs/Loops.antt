@@ -16,7 +16,7 @@ use Rattle.order.specs.Cells.{tabulate}
 use Rattle.order.specs.Order.{rankNumbers}
 use Rattle.order.proofs.Cells.{lt-cases}
 use Rattle.order.proofs.Tabulate.{tabulate-ext, tabulate-set}
-use Rattle.cost.specs.Steps.{Low, displacementsByRank, LargestRise}
+use Rattle.cost.specs.Steps.{Low, displacementsByRank, LargestGrowth}
 
 -- ---- the displacements
 
@@ -60,41 +60,41 @@ module _ (from to : Ranks) where
 -- ---- the largest rise
 
 -- the largest rise of the cells before place i
-pub record Risen (from to : Ranks) (most i : ℕ) : Type 0 where
+pub record Grown (from to : Ranks) (most i : ℕ) : Type 0 where
   pub left : i ≤ from .len
   pub small : most ≤ 12
-  pub largest : LargestRise (rankNumbers from) (rankNumbers to) i most
+  pub largest : LargestGrowth (rankNumbers from) (rankNumbers to) i most
 
-pub risen-none : (from to : Ranks) → Risen from to 0 0
-risen-none from to = record { left = omega arith; small = omega arith; largest = record { over = λ k l. omega arith; some = inl refl } }
+pub grown-none : (from to : Ranks) → Grown from to 0 0
+grown-none from to = record { left = omega arith; small = omega arith; largest = record { over = λ k l. omega arith; some = inl refl } }
 
-module _ {from to : Ranks} {most i : ℕ} (s : Risen from to most i) (l : i < from .len)
+module _ {from to : Ranks} {most i : ℕ} (s : Grown from to most i) (l : i < from .len)
     {before after : ℕ} (b : before ≡ getD (rankNumbers from) i 0) (a : after ≡ getD (rankNumbers to) i 0) where
   at-here : (most′ : ℕ) → after ≤ before + most′ → (k : ℕ) → i ≤ k → k < i + 1 → getD (rankNumbers to) k 0 ≤ getD (rankNumbers from) k 0 + most′
   at-here most′ h k g t = let e : k ≡ i = omega arith in rw e (omega arith)
 
   -- what was found still stands where the cell at i does not rise by more
-  pub risen-kept : after ≤ most + before → Risen from to most (i + 1)
-  risen-kept h = record {
+  pub grown-kept : after ≤ most + before → Grown from to most (i + 1)
+  grown-kept h = record {
     left = omega arith;
     small = s .small;
     largest = record {
       over = λ k g. ⊎-elim (λ t. s .largest .over k (t .0)) (λ t. at-here most (omega arith) k (t .0) g) (lt-cases k i);
-      some = ⊎-elim (λ z. inl z) (λ r. inr (record { place = r .place; inside = omega (arith, r .inside); by = r .by })) (s .largest .some);
+      some = ⊎-elim (λ z. inl z) (λ r. inr (record { index = r .index; inside = omega (arith, r .inside); by = r .by })) (s .largest .some);
     };
   }
 
   -- and where it does, its rise is the largest
-  pub risen-more : most + before < after → Low to → Risen from to (after - before) (i + 1)
-  risen-more h low = record {
+  pub grown-more : most + before < after → Low to → Grown from to (after - before) (i + 1)
+  grown-more h low = record {
     left = omega arith;
     small = omega (arith, low .low i);
     largest = record {
       over = λ k g.
           ⊎-elim (λ t. omega (arith, s .largest .over k (t .0))) (λ t. at-here (after - before) (omega arith) k (t .0) g) (lt-cases k i);
-      some = inr (record { place = i; inside = omega arith; by = omega arith });
+      some = inr (record { index = i; inside = omega arith; by = omega arith });
     };
   }
 
-pub risen-all : {from to : Ranks} {most i : ℕ} → Risen from to most i → from .len ≤ i → LargestRise (rankNumbers from) (rankNumbers to) (from .len) most
-risen-all {from} {to} {most} {i} s l = let e : i ≡ from .len = omega (arith, s .left) in rw e at (s .largest)
+pub grown-all : {from to : Ranks} {most i : ℕ} → Grown from to most i → from .len ≤ i → LargestGrowth (rankNumbers from) (rankNumbers to) (from .len) most
+grown-all {from} {to} {most} {i} s l = let e : i ≡ from .len = omega (arith, s .left) in rw e at (s .largest)

@@ -2,7 +2,8 @@
 --
 --   displacement u v c     cell c's rank in v minus its rank in u, a signed number
 --   displacements n u v    those of the cells 1 to n
---   largest xs             the largest of a list of numbers
+--   largerOf x ys          the largest of x and the listed numbers
+--   largest xs             the largest of a list of numbers; 0 of none
 --   cost n u v             the largest of the displacements
 --   toldDisplacements, toldCost        what an answer says: its number, and the displacements or the cost
 --   displacementsOf, costOf            the answers to `displacements` and `cost`
@@ -26,7 +27,6 @@ displacement u v c = subℕ (placeOf v c) (placeOf u c)
 unfoldable pub displacements : ℕ → List ℕ → List ℕ → List ℤ
 displacements n u v = tabulate n (λ k. displacement u v (suc k))
 
--- the larger of x and the listed numbers
 unfoldable pub largerOf : ℤ → List ℤ → ℤ
 largerOf x [] = x
 largerOf x (y ∷ ys) = cond (leZ x y) (largerOf y ys) (largerOf x ys)

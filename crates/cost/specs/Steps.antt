@@ -3,8 +3,8 @@
 --   toldPair, ranksOfPair        the ranks of two orders beside the outcome of their checks
 --   Low r                        each rank is at most 12
 --   displacementsByRank from to  the displacements of the cells 1 to 12, by their ranks
---   Rises from to n most         one of the first n cells has a rank that rises by `most`
---   LargestRise from to n most   none of the first n rises by more than `most`, and one rises by that, or it is 0
+--   Grows from to n most         one of the first n cells has a rank that grows by `most`
+--   LargestGrowth from to n most none of the first n grows by more than `most`, and one grows by that, or it is 0
 use Prim.Native.Nat.{ℕ, _+_, _≤_, _<_}
 use mathlib.Core.Path.{_≡_}
 use mathlib.Core.Logic.{_⊎_}
@@ -30,11 +30,11 @@ pub record Low (r : Ranks) : Type 0 where
 unfoldable pub displacementsByRank : Ranks → Ranks → List ℤ
 displacementsByRank from to = tabulate 12 (λ k. subℕ (getD (rankNumbers to) k 0) (getD (rankNumbers from) k 0))
 
-pub record Rises (from to : List ℕ) (n most : ℕ) : Type 0 where
-  pub place : ℕ
-  pub inside : place < n
-  pub by : getD to place 0 ≡ getD from place 0 + most
+pub record Grows (from to : List ℕ) (n most : ℕ) : Type 0 where
+  pub index : ℕ
+  pub inside : index < n
+  pub by : getD to index 0 ≡ getD from index 0 + most
 
-pub record LargestRise (from to : List ℕ) (n most : ℕ) : Type 0 where
+pub record LargestGrowth (from to : List ℕ) (n most : ℕ) : Type 0 where
   pub over : (k : ℕ) → k < n → getD to k 0 ≤ getD from k 0 + most
-  pub some : (most ≡ 0) ⊎ Rises from to n most
+  pub some : (most ≡ 0) ⊎ Grows from to n most

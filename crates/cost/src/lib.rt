@@ -11,14 +11,14 @@ ghost use Prim.Native.Nat.{_≤_};
 ghost use lib.IntN.{subℕ};
 ghost use Rattle.order.specs.Order.{rankNumbers, noRanks};
 ghost use Rattle.cost.specs.Cost.{toldDisplacements, toldCost, displacementsOf, costOf};
-ghost use Rattle.cost.specs.Steps.{toldPair, ranksOfPair, Low, displacementsByRank, LargestRise};
+ghost use Rattle.cost.specs.Steps.{toldPair, ranksOfPair, Low, displacementsByRank, LargestGrowth};
 
 pub enum CostAnswer {
     Refused(Refusal),
     Cost(u8),
 }
 
-// The displacement of cell c at place c - 1. Places past the cells are 0.
+// The displacement of cell c at index c - 1, then zeros.
 pub struct DisplacementsAnswer {
     pub outcome: Outcome,
     pub displacements: [i8; 12],
@@ -58,7 +58,7 @@ pub fn cost(u: Order, v: Order) -> CostAnswer
     if let Outcome::Refused(refusal) = outcome {
         return CostAnswer::Refused(refusal);
     }
-    CostAnswer::Cost(largest_rise(pair.from, pair.to))
+    CostAnswer::Cost(largest_growth(pair.from, pair.to))
 }
 
 // The ranks in u and in v. Orders that pass the checks of a pair are not refused their ranks.
@@ -128,10 +128,10 @@ fn displacement(from: Rank, to: Rank) -> i8
     after - before
 }
 
-// The most by which a cell's rank rises, 0 where none does.
-fn largest_rise(from: Ranks, to: Ranks) -> u8
+// The most by which a cell's rank grows, 0 where none does.
+fn largest_growth(from: Ranks, to: Ranks) -> u8
     requires { ⌜ (from .len ≤ 12) × Low from × Low to ⌝ }
-    ensures { λ r. ⌜ LargestRise (rankNumbers from) (rankNumbers to) (from .len) r ⌝ }
+    ensures { λ r. ⌜ LargestGrowth (rankNumbers from) (rankNumbers to) (from .len) r ⌝ }
 {
     let n = from.len;
     let mut most: u8 = 0;

@@ -9,11 +9,11 @@ use Rattle.order.specs.Order.{listed, pairChecks}
 use Rattle.order.proofs.Refusals.{told-done}
 use Rattle.order.proofs.Pairs.{pair-size, same-length, first-order, second-order}
 use Rattle.distance.specs.Distance.{opposed, distanceOf}
-use Rattle.distance.specs.Steps.{front, Listed}
+use Rattle.distance.specs.Steps.{front, SameFront}
 use Rattle.distance.proofs.Step.{orders-listed}
 
 module _ (u v : Order) (d : numberOf (pairChecks u v) ≡ 0) where
-  pub pair-listed : Listed u v (u .len)
+  pub pair-listed : SameFront u v (u .len)
   pair-listed =
       orders-listed u v (u .len) (pair-size u v d .1) (first-order u v d)
       (ap (λ (k : ℕ). isOrder (u .len) (front k v)) (sym (same-length u v d)) ∙ second-order u v d)

@@ -13,14 +13,14 @@ use Rattle.order.specs.Order.{cellNumbers}
 use Rattle.order.proofs.Cells.{order-true}
 use Rattle.order.proofs.Numbers.{length-front}
 use Rattle.distance.specs.Distance.{opposed}
-use Rattle.distance.specs.Steps.{front, without, Listed}
+use Rattle.distance.specs.Steps.{front, without, SameFront}
 use Rattle.distance.proofs.Counts.{Distinct, SameCells, order-same, order-distinct}
 use Rattle.distance.proofs.Opposed.{opposed-small}
 use Rattle.distance.proofs.Recursion.{LastDropped, last-dropped}
 
 -- p is the place, among the first n cells of v, of the last of the first n cells of u
 pub record Step (u v : Order) (n p : ℕ) : Type 0 where
-  pub both : Listed u v n
+  pub both : SameFront u v n
   pub more : n ≡ 0 → ⊥
   pub full-u : length (cellNumbers u) ≡ 12
   pub full-v : length (cellNumbers v) ≡ 12
@@ -53,7 +53,7 @@ module _ {u v : Order} {n p : ℕ} (s : Step u v n p) where
   place-last = omega (arith, dropped .at .last, size)
 
   module _ (w : Order) (closed : front (n - 1) w ≡ without p (front n v)) where
-    pub next-listed : Listed u w (n - 1)
+    pub next-listed : SameFront u w (n - 1)
     next-listed = record {
       small = omega (arith, both .small);
       same = rw closed (dropped .same .same);
@@ -71,7 +71,7 @@ module _ {u v : Order} {n p : ℕ} (s : Step u v n p) where
         omega (arith, both .small, opposed-small (front (n - 1) u) (front (n - 1) w) (omega (arith, both .small)))
 
 -- two orders of n cells list the same cells
-pub orders-listed : (u v : Order) (n : ℕ) → n ≤ 12 → isOrder n (front n u) ≡ true → isOrder n (front n v) ≡ true → Listed u v n
+pub orders-listed : (u v : Order) (n : ℕ) → n ≤ 12 → isOrder n (front n u) ≡ true → isOrder n (front n v) ≡ true → SameFront u v n
 orders-listed u v n h p q =
     let a = order-true n (front n u) p in
     let b = order-true n (front n v) q in

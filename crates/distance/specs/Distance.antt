@@ -3,7 +3,8 @@
 --   before v y z      going along v, y is met before z
 --   opposed u v       the distance: the number of cell pairs that u and v list oppositely. Each pair x, y that u lists in
 --                     this order counts where v lists y before x
---   exchange k u      the neighbour exchange at place k: the cells of ranks k and k + 1 change places; at place 0 nothing changes
+--   exchange k u      the neighbour exchange at place k: the cells of ranks k and k + 1 change places; at a place outside 1 to n - 1
+--                     nothing changes
 --   exchanges ks u    the exchanges at each place of a list, one after the other
 --   toldDistance a    what an answer says: its number, and the distance
 --   distanceOf u v    the answer to `distance`

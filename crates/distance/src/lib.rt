@@ -10,7 +10,7 @@ ghost use mathlib.Core.Path.{_≡_};
 ghost use Prim.Native.Nat.{_-_, _≤_};
 ghost use Rattle.order.specs.Cells.{placeOf};
 ghost use Rattle.distance.specs.Distance.{opposed, toldDistance, distanceOf};
-ghost use Rattle.distance.specs.Steps.{front, without, Listed};
+ghost use Rattle.distance.specs.Steps.{front, without, SameFront};
 
 pub enum DistanceAnswer {
     Refused(Refusal),
@@ -31,7 +31,7 @@ pub fn distance(u: Order, v: Order) -> DistanceAnswer
 // The distance of the first n cells of u and of v, which are the same cells: the last one of u is dropped from both, and
 // n - p is added, where p is its place in v.
 fn distance_from(u: Order, v: Order, n: usize) -> u32
-    requires { ⌜ Listed u v n ⌝ }
+    requires { ⌜ SameFront u v n ⌝ }
     ensures { λ r. ⌜ r ≡ opposed (front n u) (front n v) ⌝ }
 {
     if n == 0 {

@@ -1,4 +1,4 @@
--- Laws of orders and coordinates as lists of cell numbers.
+-- Laws of counts and of orders as lists of cell numbers.
 -- Assumes nothing.
 use Prim.Native.Nat.{ℕ, zero, suc, _+_, _-_, _≤_, _<_}
 use native.Mathlib.Nat.{eq-or-lt-of-le, le-of-suc-le-suc, not-suc-le-zero, zero-add}

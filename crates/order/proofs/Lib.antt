@@ -15,3 +15,4 @@ pub mod Records
 pub mod Pairs
 pub mod Inverses
 pub mod Told
+pub mod Row

@@ -5,10 +5,11 @@
 --   count c xs         how often c stands in the list
 --   below c xs         how many of the listed cells are below c in number
 --   eachOnce n xs      each of the cells 1 to n stands once
---   isOrder n xs       an order of the cells 1 to n: its length is n, and no cell is missing or doubled
+--   isOrder n xs       an order of the cells 1 to n: its length is n, and no cell is missing or doubled. The same of ranks
 --   allZero xs         each element is 0
---   isListing n len xs an array of which the first len places count lists an order of 1 to n, and its other places are 0
+--   isListing n len xs in an array xs, used up to the length len: len is n, the used part is an order of 1 to n, the rest is 0
 --   tabulate n f       f 0, f 1, .., f (n - 1)
+--   placeFrom p xs c   the place of c in a list whose first place is p, and 0 where it is not there
 --   placeOf xs c       the place of c in the list, from 1, and 0 where it is not there: in an order the rank of cell c,
 --                      in a list of ranks by cell the cell of rank c
 --   isCell n c         c is one of the cells 1 to n
@@ -51,7 +52,6 @@ abbrev pub tabulate : {A : Type 0} → ℕ → (ℕ → A) → List A
 tabulate zero f = []
 tabulate (suc n) f = f 0 ∷ tabulate n (λ k. f (suc k))
 
--- the place of c in a list whose first place is p
 unfoldable pub placeFrom : ℕ → List ℕ → ℕ → ℕ
 placeFrom p [] c = 0
 placeFrom p (x ∷ xs) c = cond (eqb c x) p (placeFrom (suc p) xs c)

@@ -2,7 +2,7 @@
 --
 --   cellNumbers o       the numbers in the record's twelve places
 --   listed o            the cells of the order, by number
---   isOrderOf n o       the record is an order of the cells 1 to n, with zeros past them
+--   isOrderOf n o       the record is an order of the cells 1 to n, with zeros past them; whether n is a size is another check
 --   orderChecks o       the checks of an order that is handed in without a group: n is its length
 --   pairChecks u v      the checks of two orders without a group: n is the first one's length
 --   orderRecord xs      the record of a list of cells

@@ -7,12 +7,14 @@
 --   Told A              an answer in the table's terms: its number, and the value of type A beside it
 --   answer checks a z   0 and the result a where all checks hold, else the number and the zeros z
 --   isSize n            n is from 3 to 12
+--   checkRow            the order in which checks run
+--   inRow checks row    checks are listed in the order of the row
 --
--- A check is a pair: whether it holds, and the refusal where it does not. Checks are listed in the order in which they run.
+-- A check is a pair: whether it holds, and the refusal that applies where it does not. Checks are listed in the order in which they run.
 use Prim.Native.Nat.{ℕ, zero, suc}
-use mathlib.Core.Bool.{Bool, cond, _&&_}
+use mathlib.Core.Bool.{Bool, true, false, cond, _&&_}
 use mathlib.Core.List.{List, [], _∷_}
-use lib.Dec.{leb}
+use lib.Dec.{leb, eqb}
 use Rattle.order.specs.declared.Refusal.{Refusal}
 use Rattle.order.specs.declared.Refusal.the-variants.{Size, NoGroup, NoCell, NoOrder, NoSymbol, Blank, Lost, Worn, CapUp, ListShort, Coordinate, BadRecord}
 use Rattle.order.specs.declared.Outcome.{Outcome}
@@ -53,3 +55,11 @@ answer checks result zeros = record { number = numberOf checks; value = ifDone (
 
 abbrev pub isSize : ℕ → Bool
 isSize n = leb 3 n && leb n 12
+
+abbrev pub checkRow : List ℕ
+checkRow = 12 ∷ 1 ∷ 2 ∷ 10 ∷ 3 ∷ 4 ∷ 5 ∷ 11 ∷ 9 ∷ 6 ∷ 7 ∷ 8 ∷ []
+
+abbrev pub inRow : List (Bool × Refusal) → List ℕ → Bool
+inRow [] row = true
+inRow (check ∷ later) [] = false
+inRow (check ∷ later) (k ∷ row) = cond (eqb (refusalNumber (check .1)) k) (inRow later (k ∷ row)) (inRow (check ∷ later) row)

@@ -1,6 +1,6 @@
 // Cells, ranks and orders (document 01, "Cells, ranks, levels") and the refusal table.
-// Every public function takes any value and answers it by one equation with a definition of specs/: a refusal's number and
-// zeros, or the result. Proved besides: an order and its ranks undo each other, both ways (proofs/Inverses).
+// Every public function takes any value and answers it by one equation with a definition of specs/; a call that can refuse answers the
+// refusal's number and zeros, or the result. Proved besides: an order and its ranks undo each other, both ways (proofs/Inverses).
 ghost use mathlib.Core.Path.{_≡_};
 ghost use mathlib.Core.Bool.{true, cond};
 ghost use Prim.Native.Nat.{_-_, _/_, _%_, _^_, _≤_};
@@ -16,13 +16,13 @@ pub struct Cell(pub u8);
 // A rank, from 1.
 pub struct Rank(pub u8);
 
-// The cells from highest level to lowest. Places past `len` are `Cell(0)`.
+// The cells from highest level to lowest: the cell in place k at index k - 1. Indices from `len` on hold `Cell(0)`.
 pub struct Order {
     pub len: usize,
     pub cells: [Cell; 12],
 }
 
-// The rank of cell c at place c - 1. Places past `len` are `Rank(0)`.
+// The rank of cell c at index c - 1. Indices from `len` on hold `Rank(0)`.
 pub struct Ranks {
     pub len: usize,
     pub ranks: [Rank; 12],
@@ -60,7 +60,7 @@ pub struct RanksAnswer {
 }
 
 impl Cell {
-    // The cell's number as an index.
+    // The cell's number, from 1.
     pub fn number(self) -> usize
         ensures { λ r. ⌜ r ≡ self .0 ⌝ }
     {
@@ -69,7 +69,7 @@ impl Cell {
 }
 
 impl Rank {
-    // The rank as an index.
+    // The rank, from 1.
     pub fn number(self) -> usize
         ensures { λ r. ⌜ r ≡ self .0 ⌝ }
     {
@@ -127,7 +127,7 @@ pub fn bit_of(c: usize) -> u32
     1u32 << (c - 1)
 }
 
-// Whether the record is an order of the cells 1 to n.
+// Whether the record is an order of the cells 1 to n. Whether n is a size is another check.
 pub fn is_order(o: Order, n: usize) -> bool
     ensures { λ r. ⌜ r ≡ isOrderOf n o ⌝ }
 {
@@ -326,7 +326,7 @@ pub fn from_ranks(r: Ranks) -> OrderAnswer
     }
 }
 
-// Whether the ranks are 1 to the length, each once: their inverse then lists each cell once.
+// Whether the ranks are 1 to the length, each once, and the later places 0: their inverse then lists each cell once.
 fn are_ranks(r: Ranks) -> bool
     requires { ⌜ r .len ≤ 12 ⌝ }
     ensures { λ b. ⌜ b ≡ isListing (r .len) (r .len) (rankNumbers r) ⌝ }

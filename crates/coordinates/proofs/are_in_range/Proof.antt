@@ -15,11 +15,11 @@ abbrev μ-loop : tie.MeasureT-loop
 loop-holds : tie.Need-loop-holds Inv-loop μ-loop
 loop-holds c = ranged-none _ (search needs)
 
-add-largest-of : tie.Need-add-largest-of Inv-loop μ-loop
-add-largest-of c = search needs
+add-limit-of : tie.Need-add-limit-of Inv-loop μ-loop
+add-limit-of c = search needs
 
-largest-of-requires : tie.Need-largest-of-requires Inv-loop μ-loop
-largest-of-requires c κs = search needs
+limit-of-requires : tie.Need-limit-of-requires Inv-loop μ-loop
+limit-of-requires c κs = search needs
 
 element-copy-out-wide : tie.Need-element-copy-out-wide Inv-loop μ-loop
 element-copy-out-wide c = search needs
@@ -28,7 +28,7 @@ wide-requires : tie.Need-wide-requires Inv-loop μ-loop
 wide-requires c κs = search needs
 
 returns : tie.Need-returns Inv-loop μ-loop
-returns c = ranged-not (c .before .before .before .before .before .loop .inv) (c .before .before .before .before .loop-test .taken) (c .before .wide .ensures) (c .before .before .before .largest-of .ensures) (c .if1 .taken)
+returns c = ranged-not (c .before .before .before .before .before .loop .inv) (c .before .before .before .before .loop-test .taken) (c .before .wide .ensures) (c .before .before .before .limit-of .ensures) (c .if1 .taken)
 
 add-k : tie.Need-add-k Inv-loop μ-loop
 add-k c = search needs
@@ -37,7 +37,7 @@ loop-less : tie.Need-loop-less Inv-loop μ-loop
 loop-less c = search needs
 
 loop-again : tie.Need-loop-again Inv-loop μ-loop
-loop-again c = ranged-more (c .before .before .before .before .before .loop .inv) (c .before .before .before .before .loop-test .taken) (c .before .wide .ensures) (c .before .before .before .largest-of .ensures) (c .if1 .left)
+loop-again c = ranged-more (c .before .before .before .before .before .loop .inv) (c .before .before .before .before .loop-test .taken) (c .before .wide .ensures) (c .before .before .before .limit-of .ensures) (c .if1 .left)
 
 returns-2 : tie.Need-returns-2 Inv-loop μ-loop
 returns-2 c = ranged-all (c .before .loop .inv) (c .loop-test .left)
@@ -49,8 +49,8 @@ are-in-range-spec =
     Inv-loop
     μ-loop
     loop-holds
-    add-largest-of
-    largest-of-requires
+    add-limit-of
+    limit-of-requires
     element-copy-out-wide
     wide-requires
     returns

@@ -26,15 +26,15 @@ returns c =
 enum-told : tie.Need-enum-told
 enum-told c = search needs
 
-largest-rise-requires : tie.Need-largest-rise-requires
-largest-rise-requires c κs = pair-low _ _ _ (c .before .before .ranks-of-pair .ensures) (c .enum-told .given .1)
+largest-growth-requires : tie.Need-largest-growth-requires
+largest-growth-requires c κs = pair-low _ _ _ (c .before .before .ranks-of-pair .ensures) (c .enum-told .given .1)
 
 returns-2 : tie.Need-returns-2
 unfolding costOf ranksOf
 returns-2 c =
     let a = c .before .before .before .before .args in
     let p = pair-done (a .u) (a .v) _ (c .before .before .before .ranks-of-pair .ensures) (c .before .enum-told .given .1) in
-    rw (cost-ranked (a .u) (a .v) (p .0) _ (rw (p .1, p .2) at (c .largest-rise .ensures))) (told-done _ _ _ (p .0))
+    rw (cost-ranked (a .u) (a .v) (p .0) _ (rw (p .1, p .2) at (c .largest-growth .ensures))) (told-done _ _ _ (p .0))
 
 pub cost-spec : {M : Type 1} → statement M
 cost-spec =
@@ -44,5 +44,5 @@ cost-spec =
     enum-known-outcome
     returns
     enum-told
-    largest-rise-requires
+    largest-growth-requires
     returns-2)

@@ -1,22 +1,22 @@
--- `cost::largest_rise` meets its contract. The loop's invariant: `most` is the largest rise of the cells before place `i`.
+-- `cost::largest_growth` meets its contract. The loop's invariant: `most` is the largest rise of the cells before place `i`.
 -- Assumes nothing.
 use borrow.Author.Needs.{needs}
 use Prim.Native.Nat.{_-_}
 use native.Mathlib.Omega.{arith}
 use mathlib.Core.Logic.{⊎-elim}
 use Rattle.order.proofs.Numbers.{rank-at}
-use Rattle.cost.proofs.Loops.{Risen, risen-none, risen-kept, risen-more, risen-all}
-use Rattle.cost.proofs.largest_rise.Statement.{statement}
-use Rattle.cost.proofs.largest_rise.Tie as tie
+use Rattle.cost.proofs.Loops.{Grown, grown-none, grown-kept, grown-more, grown-all}
+use Rattle.cost.proofs.largest_growth.Statement.{statement}
+use Rattle.cost.proofs.largest_growth.Tie as tie
 
 abbrev Inv-loop : tie.InvT-loop
-Inv-loop from to n most₀ i₀ most i = Risen from to most i
+Inv-loop from to n most₀ i₀ most i = Grown from to most i
 
 abbrev μ-loop : tie.MeasureT-loop
 μ-loop from to n most₀ i₀ most i = n - i
 
 loop-holds : tie.Need-loop-holds Inv-loop μ-loop
-loop-holds c = risen-none _ _
+loop-holds c = grown-none _ _
 
 element-copy-out-before : tie.Need-element-copy-out-before Inv-loop μ-loop
 element-copy-out-before c = search needs
@@ -43,15 +43,15 @@ loop-again : tie.Need-loop-again Inv-loop μ-loop
 loop-again c =
     let s = c .before .before .loop .inv in
     let l = c .before .loop-test .taken in
-    ⊎-elim (λ w. rw (w .1) (risen-more s l (rank-at _ _) (rank-at _ _) (w .0 .taken) (c .before .before .before .pre .2)))
-    (λ w. rw (w .1) (risen-kept s l (rank-at _ _) (rank-at _ _) (w .0 .left)))
+    ⊎-elim (λ w. rw (w .1) (grown-more s l (rank-at _ _) (rank-at _ _) (w .0 .taken) (c .before .before .before .pre .2)))
+    (λ w. rw (w .1) (grown-kept s l (rank-at _ _) (rank-at _ _) (w .0 .left)))
     (c .if1 .came)
 
 returns : tie.Need-returns Inv-loop μ-loop
-returns c = risen-all (c .before .loop .inv) (c .loop-test .left)
+returns c = grown-all (c .before .loop .inv) (c .loop-test .left)
 
-pub largest-rise-spec : {M : Type 1} → statement M
-largest-rise-spec =
+pub largest-growth-spec : {M : Type 1} → statement M
+largest-growth-spec =
     tie.close
     (tie.spec
     Inv-loop
