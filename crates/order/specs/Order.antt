@@ -16,7 +16,7 @@
 --   orderOfCells, ranksOfOrder, orderOfRanks    the answers to `order_of`, `ranks_of` and `from_ranks`
 use Prim.Native.Nat.{ℕ, suc}
 use mathlib.Core.Bool.{Bool}
-use mathlib.Core.List.{List, [], _∷_, map}
+use mathlib.Core.List.{List, [], _∷_, _++_, map}
 use lib.ListN.{length, getD, take, replicate}
 use Rattle.order.specs.declared.Cell.{Cell}
 use Rattle.order.specs.declared.Rank.{Rank}
@@ -44,7 +44,7 @@ abbrev pub orderChecks : Order → List (Bool × Refusal)
 orderChecks o = (isSize (o .len), Size) ∷ (isOrderOf (o .len) o, NoOrder) ∷ []
 
 abbrev pub pairChecks : Order → Order → List (Bool × Refusal)
-pairChecks u v = (isSize (u .len), Size) ∷ (isOrderOf (u .len) u, NoOrder) ∷ (isOrderOf (u .len) v, NoOrder) ∷ []
+pairChecks u v = orderChecks u ++ (isOrderOf (u .len) v, NoOrder) ∷ []
 
 unfoldable pub orderRecord : List ℕ → Order
 orderRecord xs = record { len = length xs; cells = tabulate 12 (λ k. record { 0 = getD xs k 0 }) }

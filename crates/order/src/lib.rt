@@ -210,14 +210,11 @@ pub fn check_order(o: Order) -> Outcome
 pub fn check_pair(u: Order, v: Order) -> Outcome
     ensures { λ r. ⌜ outcomeNumber r ≡ numberOf (pairChecks u v) ⌝ }
 {
-    let n = u.len;
-    if !is_size(n) {
-        return Outcome::Refused(Refusal::Size);
-    }
-    if !is_order(u, n) {
-        return Outcome::Refused(Refusal::NoOrder);
-    }
-    if !is_order(v, n) {
+    let outcome = check_order(u);
+    let Outcome::Done = outcome else {
+        return outcome;
+    };
+    if !is_order(v, u.len) {
         return Outcome::Refused(Refusal::NoOrder);
     }
     Outcome::Done

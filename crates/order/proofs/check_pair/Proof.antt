@@ -1,50 +1,48 @@
--- `order::check_pair` meets its contract.
+-- `order::check_pair` meets its contract: the first order's checks decide first.
 -- Assumes nothing.
 use borrow.Author.Needs.{needs}
 use borrow.Author.Tests.{not-true, not-false}
 use mathlib.Core.Path.{_≡_, sym, _∙_}
-use mathlib.Core.Bool.{true}
-use Rattle.order.specs.Refusals.{isSize}
-use Rattle.order.specs.Order.{isOrderOf}
-use Rattle.order.proofs.Refusals.{check-fails, check-holds, all-hold}
+use Rattle.order.specs.Refusals.{numberOf}
+use Rattle.order.specs.Order.{orderChecks}
+use Rattle.order.proofs.Refusals.{accepted, check-fails, check-holds, all-hold, refused-first, later-decide}
 use Rattle.order.proofs.check_pair.Statement.{statement}
 use Rattle.order.proofs.check_pair.Tie as tie
 
-is-size-requires : tie.Need-is-size-requires
-is-size-requires c κs = search needs
+check-order-requires : tie.Need-check-order-requires
+check-order-requires c κs = search needs
+
+enum-told : tie.Need-enum-told
+enum-told c = search needs
+
+enum-told-2 : tie.Need-enum-told-2
+enum-told-2 c = search needs
 
 returns : tie.Need-returns
-returns c = sym (check-fails _ _ (sym (c .before .is-size .ensures) ∙ not-true _ (c .if1 .taken)))
-
--- the size has passed
-sized : (c : tie.Else1) → isSize (c .before .before .args .u .len) ≡ true
-sized c = sym (c .before .is-size .ensures) ∙ not-false _ (c .if1 .left)
+returns c = refused-first _ _ (c .before .before .check-order .ensures) (c .enum-told2 .given .1)
 
 is-order-requires : tie.Need-is-order-requires
 is-order-requires c κs = search needs
 
+-- the first order has passed
+first : (c : tie.After-is-order) → numberOf (orderChecks (c .before .before .before .before .args .u)) ≡ 0
+first c = accepted (c .before .before .before .check-order .ensures) (c .before .enum-told .given .1)
+
 returns-2 : tie.Need-returns-2
-returns-2 c = sym (check-holds _ _ (sized (c .before .before)) ∙ check-fails _ _ (sym (c .before .is-order .ensures) ∙ not-true _ (c .if2 .taken)))
-
--- and so has the first order
-first : (c : tie.Else2) → let u = c .before .before .before .before .args .u in isOrderOf (u .len) u ≡ true
-first c = sym (c .before .is-order .ensures) ∙ not-false _ (c .if2 .left)
-
-is-order-requires-2 : tie.Need-is-order-requires-2
-is-order-requires-2 c κs = search needs
+returns-2 c = sym (later-decide _ _ (first (c .before)) ∙ check-fails _ _ (sym (c .before .is-order .ensures) ∙ not-true _ (c .if1 .taken)))
 
 returns-3 : tie.Need-returns-3
 returns-3 c =
-    let d = c .before .before in
-    sym (check-holds _ _ (sized (d .before .before)) ∙ check-holds _ _ (first d) ∙ check-fails _ _ (sym (c .before .is-order2 .ensures) ∙ not-true _ (c .if3 .taken)))
-
-returns-4 : tie.Need-returns-4
-returns-4 c =
-    let d = c .before .before in
-    sym
-    (check-holds _ _ (sized (d .before .before)) ∙ check-holds _ _ (first d)
-    ∙ check-holds _ _ (sym (c .before .is-order2 .ensures) ∙ not-false _ (c .if3 .left)) ∙ all-hold)
+    sym (later-decide _ _ (first (c .before)) ∙ check-holds _ _ (sym (c .before .is-order .ensures) ∙ not-false _ (c .if1 .left)) ∙ all-hold)
 
 pub check-pair-spec : {M : Type 1} → statement M
 check-pair-spec =
-    tie.close (tie.spec is-size-requires returns is-order-requires returns-2 is-order-requires-2 returns-3 returns-4)
+    tie.close
+    (tie.spec
+    check-order-requires
+    enum-told
+    enum-told-2
+    returns
+    is-order-requires
+    returns-2
+    returns-3)
