@@ -94,15 +94,9 @@ pub fn from_coordinates(x: Coordinates) -> OrderAnswer
     ensures { λ r. ⌜ toldOrder r ≡ orderOfCoordinates x ⌝ }
 {
     let outcome = check_coordinates(x);
-    let Outcome::Done = outcome else {
-        return OrderAnswer {
-            outcome,
-            order: Order {
-                len: 0,
-                cells: [Cell(0); 12],
-            },
-        };
-    };
+    if let Outcome::Refused(refusal) = outcome {
+        return order::no_order(refusal);
+    }
     OrderAnswer {
         outcome: Outcome::Done,
         order: order_by_insertion(x),

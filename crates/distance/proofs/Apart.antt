@@ -47,7 +47,7 @@ one-apart {u} {w} s d = (to, from)
 
 -- ---- both ways
 
-exchange-twice : (k : ℕ) (u : List ℕ) → exchange k (exchange k u) ≡ u
+pub exchange-twice : (k : ℕ) (u : List ℕ) → exchange k (exchange k u) ≡ u
 exchange-twice zero u = refl
 exchange-twice (suc k) u = past k u
   where

@@ -43,7 +43,7 @@ stands p c (x ∷ xs) l =
     more e s = record { index = suc (s .index); inside = omega (arith, s .inside); place = rw e (s .place ∙ omega arith); there = s .there }
 
 -- an element that is listed once stands at its own place
-count-at : (i : ℕ) (xs : List ℕ) → i < length xs → 1 ≤ count (getD xs i 0) xs
+pub count-at : (i : ℕ) (xs : List ℕ) → i < length xs → 1 ≤ count (getD xs i 0) xs
 count-at i [] l = absurd (not-suc-le-zero l)
 count-at zero (x ∷ xs) l = omega (arith, tally-eq x x refl)
 count-at (suc i) (x ∷ xs) l = omega (arith, count-at i xs (le-of-suc-le-suc l))

@@ -1,7 +1,8 @@
 -- A list of cells and its record determine each other.
 -- Assumes nothing.
 use Prim.Native.Nat.{ℕ, _≤_}
-use mathlib.Core.Path.{_≡_, refl}
+use native.Mathlib.Omega.{arith}
+use mathlib.Core.Path.{_≡_, refl, _∙_}
 use mathlib.Core.Bool.{Bool, true, false, _&&_}
 use mathlib.Core.List.{List}
 use lib.ListN.{length}
@@ -11,7 +12,7 @@ use Rattle.order.specs.Refusals.{numberOf}
 use Rattle.order.specs.Cells.{isOrder, isListing}
 use Rattle.order.specs.Order.{cellNumbers, listed, isOrderOf, orderChecks, orderRecord}
 use Rattle.order.proofs.Cells.{IsOrder, order-true}
-use Rattle.order.proofs.Refusals.{sized-done}
+use Rattle.order.proofs.Refusals.{sized-done, sized-holds}
 use Rattle.order.proofs.Check.{listing-parts}
 use Rattle.order.proofs.Padded.{padded, padded-listed, padded-clear, padded-back}
 use Rattle.order.proofs.Listings.{cell, cellNumber}
@@ -30,6 +31,25 @@ module _ (xs : List ℕ) (s : length xs ≤ 12) where
   record-order =
       rw (eq-eqb (length xs) (length xs) refl, record-listed, padded-clear cell cellNumber (λ k. refl) (λ c. refl) 12 xs s (length xs) refl)
       (and-true (isOrder (length xs) xs))
+
+-- the record of an order of n cells: its length, its list, and that it passes the checks
+module _ (n : ℕ) (xs : List ℕ) (t : isOrder n xs ≡ true) where
+  pub recorded-length : orderRecord xs .len ≡ n
+  unfolding orderRecord
+  recorded-length = order-true n xs t .size
+
+  module _ (low : 3 ≤ n) (high : n ≤ 12) where
+    short : length xs ≤ 12
+    short = omega (arith, order-true n xs t .size)
+
+    pub recorded-list : listed (orderRecord xs) ≡ xs
+    recorded-list = record-listed xs short
+
+    pub recorded-passes : numberOf (orderChecks (orderRecord xs)) ≡ 0
+    unfolding orderRecord
+    recorded-passes =
+        let size = order-true n xs t .size in
+        sized-holds (length xs) _ _ (omega arith) short (record-order xs short ∙ rw size t)
 
 -- what an order that passes the checks tells
 module _ (o : Order) (d : numberOf (orderChecks o) ≡ 0) where

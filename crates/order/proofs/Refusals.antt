@@ -2,7 +2,7 @@
 -- Assumes nothing.
 use Prim.Native.Nat.{ℕ, _≤_, _<_}
 use mathlib.Core.Path.{_≡_, refl, sym, ap, _∙_}
-use mathlib.Core.Bool.{cond, Bool, true, false, and-false}
+use mathlib.Core.Bool.{Bool, true, false, and-false}
 use mathlib.Core.List.{List, [], _∷_, _++_}
 use native.Mathlib.Omega.{arith}
 use lib.Dec.{leb}
@@ -82,27 +82,26 @@ unfolding numberOf
 check-held true r later e = (refl, e)
 check-held false r later e = absurd (not-zero r e)
 
--- the same of checks that come first and checks that come later
-pub later-decide : (first later : List (Bool × Refusal)) → numberOf first ≡ 0 → numberOf (first ++ later) ≡ numberOf later
-later-decide [] later e = refl
-later-decide (check ∷ first) later e =
-    let (h, rest) = check-held (check .0) (check .1) first e in
-    check-holds _ _ h ∙ later-decide first later rest
+-- of checks that come first and checks that come later, the first decide where one of them refuses, the later where none does
+module _ (later : List (Bool × Refusal)) where
+  pub later-decide : (first : List (Bool × Refusal)) → numberOf first ≡ 0 → numberOf (first ++ later) ≡ numberOf later
+  unfolding numberOf
+  later-decide [] e = refl
+  later-decide ((true, r) ∷ first) e = later-decide first e
+  later-decide ((false, r) ∷ first) e = absurd (not-zero r e)
 
-pub first-decide : (first later : List (Bool × Refusal)) (r : Refusal) → numberOf first ≡ refusalNumber r → numberOf (first ++ later) ≡ refusalNumber r
-unfolding numberOf
-first-decide [] later r e = absurd (not-zero r (sym e))
-first-decide (check ∷ first) later r e = go (check .0) (first-decide first later r) e
-  where
-    go : (b : Bool) → (numberOf first ≡ refusalNumber r → numberOf (first ++ later) ≡ refusalNumber r)
-        → cond b (numberOf first) (refusalNumber (check .1)) ≡ refusalNumber r → cond b (numberOf (first ++ later)) (refusalNumber (check .1)) ≡ refusalNumber r
-    go true rest e = rest e
-    go false rest e = e
+  pub first-decide : (first : List (Bool × Refusal)) → (numberOf first ≡ 0 → ⊥) → numberOf (first ++ later) ≡ numberOf first
+  unfolding numberOf
+  first-decide [] f = absurd (f refl)
+  first-decide ((true, r) ∷ first) f = first-decide first f
+  first-decide ((false, r) ∷ first) f = refl
 
--- the refusal of the first checks is that of all
-pub refused-first : (first later : List (Bool × Refusal)) {o : Outcome} {r : Refusal} → outcomeNumber o ≡ numberOf first → o ≡ Refused r
-    → outcomeNumber o ≡ numberOf (first ++ later)
-refused-first first later {r = r} e d = ap outcomeNumber d ∙ sym (first-decide first later r (sym e ∙ ap outcomeNumber d))
+  pub refused-first : (first : List (Bool × Refusal)) (r : Refusal) → numberOf first ≡ refusalNumber r → numberOf (first ++ later) ≡ refusalNumber r
+  refused-first first r e = first-decide first (λ z. not-zero r (sym e ∙ z)) ∙ e
+
+  -- the outcome of the first checks, passed on as that of all
+  pub outcome-first : (first : List (Bool × Refusal)) {o : Outcome} {r : Refusal} → outcomeNumber o ≡ numberOf first → o ≡ Refused r → outcomeNumber o ≡ numberOf (first ++ later)
+  outcome-first first {r = r} e d = ap outcomeNumber d ∙ sym (refused-first first r (sym e ∙ ap outcomeNumber d))
 
 -- ---- answers
 

@@ -254,9 +254,9 @@ fn order_with(cells: &[u8]) -> Order
     }
 }
 
-// A refusal, with zeros for the order.
-fn no_order(refusal: Refusal) -> OrderAnswer
-    ensures { λ r. ⌜ r ≡ record { outcome = Outcome.Refused refusal; order = noOrder } ⌝ }
+// The answer of a call that is refused an order: zeros beside the refusal.
+pub fn no_order(refusal: Refusal) -> OrderAnswer
+    ensures { λ r. ⌜ toldOrder r ≡ record { number = refusalNumber refusal; value = noOrder } ⌝ }
 {
     OrderAnswer {
         outcome: Outcome::Refused(refusal),

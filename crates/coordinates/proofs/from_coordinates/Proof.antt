@@ -3,7 +3,10 @@
 use borrow.Author.Needs.{needs}
 use Prim.Native.Nat.{_+_}
 use native.Mathlib.Omega.{arith}
-use Rattle.order.proofs.Refusals.{accepted, passed-on, told-done, sized-done}
+use mathlib.Core.Path.{sym, ap, _∙_}
+use Rattle.order.specs.Refusals.{outcomeNumber}
+use Rattle.order.proofs.Refusals.{accepted, told-refused, told-done, sized-done}
+use Rattle.order.specs.declared.Refusal.the-variants.{Coordinate}
 use Rattle.coordinates.specs.Coordinates.{inRange}
 use Rattle.coordinates.specs.Calls.{orderOfCoordinates}
 use Rattle.coordinates.proofs.from_coordinates.Statement.{statement}
@@ -12,20 +15,26 @@ use Rattle.coordinates.proofs.from_coordinates.Tie as tie
 check-coordinates-requires : tie.Need-check-coordinates-requires
 check-coordinates-requires c κs = search needs
 
-enum-told : tie.Need-enum-told
-enum-told c = search needs
+enum-known-outcome : tie.Need-enum-known-outcome
+enum-known-outcome c = search needs
 
-enum-told-2 : tie.Need-enum-told-2
-enum-told-2 c = search needs
+no-order-requires : tie.Need-no-order-requires
+no-order-requires c κs = search needs
 
 returns : tie.Need-returns
 unfolding orderOfCoordinates
-returns c = passed-on _ _ _ _ (c .before .before .check-coordinates .ensures) _ (c .enum-told2 .given .1)
+returns c =
+    let known = c .before .before .outcome .given in
+    c .no-order .ensures
+    ∙ told-refused _ _ _ (known .0 .0) (sym (c .before .before .before .before .check-coordinates .ensures) ∙ ap outcomeNumber (known .1))
+
+enum-told : tie.Need-enum-told
+enum-told c = search needs
 
 order-by-insertion-requires : tie.Need-order-by-insertion-requires
 order-by-insertion-requires c κs =
     let x = c .before .before .before .args .x in
-    let d = sized-done (x .len + 1) (inRange (x .len) 1 (x .values)) _ (accepted (c .before .before .check-coordinates .ensures) (c .enum-told .given .1)) in
+    let d = sized-done (x .len + 1) (inRange (x .len) 1 (x .values)) Coordinate (accepted (c .before .before .check-coordinates .ensures) (c .enum-told .given .1)) in
     (omega arith, d .2)
 
 returns-2 : tie.Need-returns-2
@@ -39,8 +48,9 @@ from-coordinates-spec =
     tie.close
     (tie.spec
     check-coordinates-requires
-    enum-told
-    enum-told-2
+    enum-known-outcome
+    no-order-requires
     returns
+    enum-told
     order-by-insertion-requires
     returns-2)

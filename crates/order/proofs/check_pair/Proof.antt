@@ -5,7 +5,7 @@ use borrow.Author.Tests.{not-true, not-false}
 use mathlib.Core.Path.{_≡_, sym, _∙_}
 use Rattle.order.specs.Refusals.{numberOf}
 use Rattle.order.specs.Order.{orderChecks}
-use Rattle.order.proofs.Refusals.{accepted, check-fails, check-holds, all-hold, refused-first, later-decide}
+use Rattle.order.proofs.Refusals.{accepted, check-fails, check-holds, all-hold, outcome-first, later-decide}
 use Rattle.order.proofs.check_pair.Statement.{statement}
 use Rattle.order.proofs.check_pair.Tie as tie
 
@@ -19,7 +19,7 @@ enum-told-2 : tie.Need-enum-told-2
 enum-told-2 c = search needs
 
 returns : tie.Need-returns
-returns c = refused-first _ _ (c .before .before .check-order .ensures) (c .enum-told2 .given .1)
+returns c = outcome-first _ _ (c .before .before .check-order .ensures) (c .enum-told2 .given .1)
 
 is-order-requires : tie.Need-is-order-requires
 is-order-requires c κs = search needs

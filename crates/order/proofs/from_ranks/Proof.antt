@@ -20,8 +20,7 @@ no-order-requires c κs = search needs
 returns : tie.Need-returns
 unfolding orderOfRanks
 returns c =
-    rw (c .no-order .ensures)
-    (told-refused _ _ _ Size (check-fails _ _ (sym (c .before .before .is-size .ensures) ∙ not-true _ (c .before .if1 .taken))))
+    c .no-order .ensures ∙ told-refused _ _ _ Size (check-fails _ _ (sym (c .before .before .is-size .ensures) ∙ not-true _ (c .before .if1 .taken)))
 
 -- the size has passed
 sized : (c : tie.Else1) → isSize (c .before .before .args .r .len) ≡ true
@@ -36,8 +35,7 @@ no-order-requires-2 c κs = search needs
 returns-2 : tie.Need-returns-2
 unfolding orderOfRanks
 returns-2 c =
-    rw (c .no-order2 .ensures)
-    (told-refused _ _ _ NoOrder (check-holds _ _ (sized (c .before .before .before)) ∙ check-fails _ _ (sym (c .before .before .are-ranks .ensures) ∙ not-true _ (c .before .if2 .taken))))
+    c .no-order2 .ensures ∙ told-refused _ _ _ NoOrder (check-holds _ _ (sized (c .before .before .before)) ∙ check-fails _ _ (sym (c .before .before .are-ranks .ensures) ∙ not-true _ (c .before .if2 .taken)))
 
 cells-by-sweep-requires : tie.Need-cells-by-sweep-requires
 cells-by-sweep-requires c κs = size-true _ (sized (c .before .before)) .1

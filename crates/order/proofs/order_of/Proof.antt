@@ -24,8 +24,7 @@ no-order-requires c κs = search needs
 returns : tie.Need-returns
 unfolding orderOfCells
 returns c =
-    rw (c .no-order .ensures)
-    (told-refused _ _ _ Size (check-fails _ _ (sym (c .before .before .is-size .ensures) ∙ not-true _ (c .before .if1 .taken))))
+    c .no-order .ensures ∙ told-refused _ _ _ Size (check-fails _ _ (sym (c .before .before .is-size .ensures) ∙ not-true _ (c .before .if1 .taken)))
 
 -- the size has passed
 sized : (c : tie.Else1) → isSize (length (now (c .before .before .before .args .cells))) ≡ true
@@ -50,8 +49,7 @@ returns-2 : tie.Need-returns-2
 unfolding orderOfCells
 returns-2 c =
     let d = c .before .before in
-    rw (c .no-order2 .ensures)
-    (told-refused _ _ _ NoOrder (check-holds _ _ (sized (d .before .before)) ∙ check-fails _ _ (sym (tested d) ∙ not-true _ (c .before .if2 .taken))))
+    c .no-order2 .ensures ∙ told-refused _ _ _ NoOrder (check-holds _ _ (sized (d .before .before)) ∙ check-fails _ _ (sym (tested d) ∙ not-true _ (c .before .if2 .taken)))
 
 returns-3 : tie.Need-returns-3
 unfolding orderOfCells

@@ -1,0 +1,172 @@
+-- Codewords as orders: the word of a number is the coordinates of an order, that order is a codeword, and a codeword's coordinates are a word.
+-- Assumes nothing.
+use Prim.Native.Nat.{ℕ, zero, suc, _+_, _-_, _%_, _≤_, _<_}
+use native.Mathlib.Nat.{not-suc-le-zero, le-of-suc-le-suc, add-zero}
+use native.Mathlib.Omega.{arith}
+use mathlib.Core.Path.{_≡_, refl, sym, ap, _∙_, subst}
+use mathlib.Core.Bool.{true}
+use mathlib.Core.Logic.{⊎-elim}
+use mathlib.Core.List.{List, [], _∷_, _++_}
+use lib.Dec.{T, leb, leb→le, le→leb, eqb}
+use lib.ListN.{length, getD, take, replicate, List·getD-eq-default}
+use lib.Seq.{ext-getD}
+use borrow.Author.Tests.{le-leb, lt-leb}
+use Rattle.order.specs.declared.Order.{Order}
+use Rattle.order.specs.Cells.{isOrder, tabulate}
+use Rattle.order.specs.Refusals as refusals
+use Rattle.order.specs.Order.{listed, orderRecord}
+use Rattle.order.proofs.Cells.{lt-cases}
+use Rattle.order.proofs.Tabulate.{length-tabulate, getD-tabulate}
+use Rattle.order.proofs.Refusals.{sized-holds}
+use Rattle.coordinates.specs.Coordinates.{coordinateOf, coordinatesTo, orderFrom, inRange}
+use Rattle.coordinates.specs.Calls.{coordinatesOf, coordinateAt, orderByCoordinates, coordinateChecks}
+use Rattle.coordinates.proofs.Range.{all-in-range}
+use Rattle.coordinates.proofs.RoundTrip.{order-ext, coordinate-back, coordinates-low, order-of-coordinates, order-of-any}
+use Rattle.code.specs.Words.{modulus, weight, leaves, K, wordAt, numberOf}
+use Rattle.code.specs.Decoding.{isCodeword}
+use Rattle.code.specs.Steps.{held, ranged, isWord, syndromeOf}
+use Rattle.code.proofs.Tests.{is-true, and-left, and-right, and-both}
+use Rattle.code.proofs.Laws.{word-of, of-word, word-is-word, number-of-word, word-of-number}
+use Rattle.code.proofs.Scanning.{cut}
+
+-- ---- ranges
+
+ranged-at : (i k : ℕ) (x : List ℕ) → T (ranged i x) → k < length x → getD x k 0 ≤ i + k
+unfolding ranged
+ranged-at i k [] t l = absurd (not-suc-le-zero l)
+ranged-at i zero (v ∷ x) t l = rw add-zero (leb→le v i (and-left (leb v i) (ranged (suc i) x) t))
+ranged-at i (suc k) (v ∷ x) t l =
+    let next : i + suc k ≡ suc i + k = omega arith in
+    rw next (ranged-at (suc i) k x (and-right (leb v i) (ranged (suc i) x) t) (le-of-suc-le-suc l))
+
+all-ranged : (i m : ℕ) (f : ℕ → ℕ) → ((k : ℕ) → k < m → f k ≤ i + k) → T (ranged i (tabulate m f))
+unfolding ranged
+all-ranged i zero f h = tt
+all-ranged i (suc m) f h =
+    let first : f 0 ≤ i = rw add-zero at (h 0 (omega arith)) in
+    and-both (leb (f 0) i) (ranged (suc i) (tabulate m (λ k. f (suc k)))) (le→leb (f 0) i first)
+    (all-ranged (suc i) m (λ k. f (suc k)) (λ k l. let e : i + suc k ≡ suc i + k = omega arith in rw e at (h (suc k) (omega arith))))
+
+-- ---- a list of coordinates in its record
+
+-- the places past the last are 0
+held-at : (x : List ℕ) (k j : ℕ) → getD (x ++ replicate j 0) k 0 ≡ getD x k 0
+held-at [] k zero = refl
+held-at [] zero (suc j) = refl
+held-at [] (suc k) (suc j) = held-at [] k j
+held-at (v ∷ x) zero j = refl
+held-at (v ∷ x) (suc k) j = held-at x k j
+
+module _ (x : List ℕ) (t : T (ranged 1 x)) where
+  held-in-range : inRange (length x) 1 (held x .values) ≡ true
+  held-in-range =
+      all-in-range (length x) 1 (held x .values)
+      (λ k l. rw (held-at x k (11 - length x))
+      (⊎-elim
+      (λ c. rw (le-leb (1 + k) (length x) (omega arith)) (ranged-at 1 k x t (c .0)))
+      (λ c. rw (lt-leb (1 + k) (length x) (omega arith)) (omega (arith, List·getD-eq-default x 0 {n = k} (c .0))))
+      (lt-cases k (length x))))
+
+  -- the record of a word passes the checks of coordinates
+  pub held-passes : 3 ≤ length x + 1 → length x + 1 ≤ 12 → refusals.numberOf (coordinateChecks (held x)) ≡ 0
+  held-passes low high = sized-holds (length x + 1) _ _ low high held-in-range
+
+-- and its order is that of the word
+pub held-order : (x : List ℕ) → orderByCoordinates (held x) ≡ orderRecord (orderFrom (coordinateAt x) (length x + 1))
+unfolding orderByCoordinates
+held-order x = ap orderRecord (order-ext (length x + 1) _ _ same)
+  where
+    same : (i : ℕ) → i < length x + 1 → coordinateAt (held x .values) i ≡ coordinateAt x i
+    same zero l = refl
+    same (suc k) l = held-at x k (11 - length x)
+
+-- ---- the order of a word
+
+module _ (n : ℕ) (pos : 0 < n) (x : List ℕ) (w : isWord n x ≡ true) where
+  abbrev u : List ℕ
+  u = orderFrom (coordinateAt x) n
+
+  low : (i : ℕ) → i < n → coordinateAt x i ≤ i
+  low zero l = omega arith
+  low (suc k) l = let t = word-of n x w in omega (arith, ranged-at 1 k x (t .range) (omega arith))
+
+  -- it has the word for its coordinates
+  pub word-coordinates : coordinatesTo (n - 1) u ≡ x
+  unfolding coordinatesTo
+  word-coordinates =
+      let size = length-tabulate (n - 1) (λ k. coordinateOf u (suc k)) in
+      ext-getD 0 (coordinatesTo (n - 1) u) x (size ∙ sym (word-of n x w .size))
+      (λ k l.
+      getD-tabulate (n - 1) (λ k. coordinateOf u (suc k)) k 0 (omega arith)
+      ∙ coordinate-back (coordinateAt x) n low (suc k) (omega arith))
+
+  -- and is a codeword
+  pub word-codeword : isCodeword n u ≡ true
+  unfolding isCodeword
+  word-codeword = rw word-coordinates (is-true (leaves (modulus n) 1 0 x) (word-of n x w .sum))
+
+-- ---- the codeword of a number
+
+module _ (n : ℕ) (pos : 0 < n) (s : ℕ) (h : s < K n) where
+  pub symbol-order : isOrder n (orderFrom (coordinateAt (wordAt n s)) n) ≡ true
+  symbol-order = order-of-any (coordinateAt (wordAt n s)) n
+
+  pub symbol-coordinates : coordinatesTo (n - 1) (orderFrom (coordinateAt (wordAt n s)) n) ≡ wordAt n s
+  symbol-coordinates = word-coordinates n pos (wordAt n s) (word-is-word n pos s h)
+
+  pub symbol-codeword : isCodeword n (orderFrom (coordinateAt (wordAt n s)) n) ≡ true
+  symbol-codeword = word-codeword n pos (wordAt n s) (word-is-word n pos s h)
+
+  -- its number is that number
+  pub symbol-back : numberOf n (coordinatesTo (n - 1) (orderFrom (coordinateAt (wordAt n s)) n)) ≡ s
+  symbol-back = rw symbol-coordinates (number-of-word n pos s h)
+
+-- ---- the coordinates of an order
+
+module _ (n : ℕ) (pos : 0 < n) (u : List ℕ) (o : isOrder n u ≡ true) where
+  -- those of a codeword are a word
+  pub codeword-word : isCodeword n u ≡ true → isWord n (coordinatesTo (n - 1) u) ≡ true
+  unfolding isCodeword coordinatesTo
+  codeword-word c =
+      of-word n (coordinatesTo (n - 1) u) (record {
+        size = length-tabulate (n - 1) (λ k. coordinateOf u (suc k));
+        range = all-ranged 1 (n - 1) (λ k. coordinateOf u (suc k)) (λ k l. omega (arith, coordinates-low n u o (suc k) (omega arith)));
+        sum = subst T (sym c) tt;
+      })
+
+  coordinate-held : (i : ℕ) → i < n → coordinateAt (coordinatesTo (n - 1) u) i ≡ coordinateOf u i
+  unfolding coordinatesTo
+  coordinate-held zero l = omega (arith, coordinates-low n u o 0 (omega arith))
+  coordinate-held (suc k) l = getD-tabulate (n - 1) (λ k. coordinateOf u (suc k)) k 0 (omega arith)
+
+  -- a codeword is the codeword of its number
+  pub number-of-codeword : isCodeword n u ≡ true → orderFrom (coordinateAt (wordAt n (numberOf n (coordinatesTo (n - 1) u)))) n ≡ u
+  number-of-codeword c =
+      rw (word-of-number n pos (coordinatesTo (n - 1) u) (codeword-word c))
+      (order-ext n _ _ coordinate-held ∙ order-of-coordinates n u o)
+
+-- ---- the record of an order's coordinates
+
+take-tabulate : (m k : ℕ) (f : ℕ → ℕ) → m ≤ k → take m (tabulate k f) ≡ tabulate m f
+take-tabulate zero k f l = refl
+take-tabulate (suc m) zero f l = absurd (not-suc-le-zero l)
+take-tabulate (suc m) (suc k) f l = ap (λ (t : List ℕ). f 0 ∷ t) (take-tabulate m k (λ j. f (suc j)) (le-of-suc-le-suc l))
+
+module _ (o : Order) (low : 1 ≤ o .len) (high : o .len ≤ 12) where
+  pub cut-coordinates : take (coordinatesOf o .len) (coordinatesOf o .values) ≡ coordinatesTo (o .len - 1) (listed o)
+  unfolding coordinatesOf coordinatesTo
+  cut-coordinates = take-tabulate (o .len - 1) 11 (λ k. coordinateOf (listed o) (suc k)) (omega arith)
+
+  -- the number of cells
+  pub cells-of : coordinatesOf o .len + 1 ≡ o .len
+  unfolding coordinatesOf
+  cells-of = omega arith
+
+  pub syndrome-of : weight 1 (cut (coordinatesOf o)) % modulus (coordinatesOf o .len + 1) ≡ syndromeOf (o .len) (listed o)
+  unfolding syndromeOf
+  syndrome-of = rw (cut-coordinates, cells-of)
+
+-- an order is a codeword where its syndrome is 0
+pub code-syndrome : (n : ℕ) (u : List ℕ) → isCodeword n u ≡ eqb (syndromeOf n u) 0
+unfolding isCodeword leaves syndromeOf
+code-syndrome n u = refl

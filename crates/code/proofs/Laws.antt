@@ -1,0 +1,71 @@
+-- The numbering as the specifications name it: numbers and words undo each other, K(n) and each count of the table are numbers of choices,
+-- and the words stand in dictionary order.
+-- Assumes nothing.
+use mathlib.Core.Path.{_≡_, sym, _∙_, subst}
+use mathlib.Core.Bool.{true, _&&_}
+use mathlib.Core.List.{List, []}
+use Prim.Native.Nat.{ℕ, _+_, _-_, _*_, _<_}
+use native.Mathlib.Omega.{arith}
+use lib.Dec.{T, eqb}
+use lib.ListN.{length, getD}
+use borrow.Author.Tests.{eqb-true, eq-eqb}
+use Rattle.order.proofs.Cells.{both}
+use Rattle.code.specs.Words.{modulus, select, leaves, vectorsFrom, vectors, words, K, wordAt, numberOf}
+use Rattle.code.specs.Tails.{tails, Entry}
+use Rattle.code.specs.Table.{offsetOf, tableRight}
+use Rattle.code.specs.Steps.{ranged, isWord}
+use Rattle.code.proofs.Tests.{is-true}
+use Rattle.code.proofs.Rule.{rule}
+use Rattle.code.proofs.Lists.{getD-index}
+use Rattle.code.proofs.Numbering.{wordsFrom, count, found, number-word, word-right}
+
+-- what it takes to be a word
+pub record Word (n : ℕ) (x : List ℕ) : Type 0 where
+  pub size : length x ≡ n - 1
+  pub range : T (ranged 1 x)
+  pub sum : T (leaves (modulus n) 1 0 x)
+
+pub word-of : (n : ℕ) (x : List ℕ) → isWord n x ≡ true → Word n x
+unfolding isWord
+word-of n x w =
+    let sized = eqb (length x) (n - 1) in
+    let a = both (sized && ranged 1 x) (leaves (modulus n) 1 0 x) w in
+    let b = both sized (ranged 1 x) (a .0) in
+    record { size = eqb-true (length x) (n - 1) (b .0); range = subst T (sym (b .1)) tt; sum = subst T (sym (a .1)) tt }
+
+pub of-word : (n : ℕ) (x : List ℕ) → Word n x → isWord n x ≡ true
+unfolding isWord
+of-word n x w = rw (eq-eqb (length x) (n - 1) (w .size), is-true (ranged 1 x) (w .range), is-true (leaves (modulus n) 1 0 x) (w .sum))
+
+-- a count of the table is the number of choices of the coordinates from i on that leave r
+pub entry-counts :
+    (counts : List ℕ) → T (tableRight counts) → (n i r : ℕ) → Entry n i r
+    → getD counts (offsetOf n + (i - 1) * (2 * n - 1) + r) 0 ≡ length (select (leaves (modulus n) i r) (vectorsFrom (n - i) i))
+unfolding tails wordsFrom
+entry-counts counts t n i r e = rule counts t n i r e ∙ sym (count (modulus n) (omega arith) (n - i) i r (e .residue))
+
+module _ (n : ℕ) (pos : 0 < n) where
+  -- K(n) is an entry of the table
+  pub K-entry : tails n 1 0 ≡ K n
+  unfolding K tails words wordsFrom vectors
+  K-entry = sym (count (modulus n) (omega arith) (n - 1) 1 0 (omega arith))
+
+  pub number-of-word : (s : ℕ) → s < K n → numberOf n (wordAt n s) ≡ s
+  unfolding numberOf wordAt tails words wordsFrom vectors
+  number-of-word s h = number-word (modulus n) (omega arith) (n - 1) 1 0 s (omega arith) (rw (← K-entry) at h)
+
+  pub word-is-word : (s : ℕ) → s < K n → isWord n (wordAt n s) ≡ true
+  unfolding wordAt tails words wordsFrom vectors
+  word-is-word s h =
+      let (size, range, sum) = word-right (modulus n) (omega arith) (n - 1) 1 0 s (omega arith) (rw (← K-entry) at h) in
+      of-word n (wordAt n s) (record { size = size; range = range; sum = sum })
+
+  pub number-below : (x : List ℕ) → isWord n x ≡ true → numberOf n x < K n
+  unfolding numberOf tails words wordsFrom vectors
+  number-below x w =
+      let t = word-of n x w in
+      rw (← K-entry, ← t .size) (found (modulus n) (omega arith) x 1 0 (omega arith) (t .range) (t .sum))
+
+  pub word-of-number : (x : List ℕ) → isWord n x ≡ true → wordAt n (numberOf n x) ≡ x
+  unfolding numberOf wordAt K
+  word-of-number x w = getD-index x (words n) [] (number-below x w)

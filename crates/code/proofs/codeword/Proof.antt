@@ -1,0 +1,97 @@
+-- `code::codeword` meets its contract: the order of a word of the list is never refused.
+-- Assumes nothing.
+use mathlib.Core.Path.{_≡_, sym, ap, _∙_}
+use mathlib.Core.Bool.{true}
+use Prim.Native.Nat.{_<_, _≤_}
+use native.Mathlib.Omega.{arith}
+use borrow.Author.Tests.{not-true, not-false, le-ltb}
+use borrow.Author.Needs.{needs}
+use Rattle.order.specs.declared.Refusal.the-variants.{Size, NoSymbol}
+use Rattle.order.specs.Refusals.{isSize}
+use Rattle.order.proofs.Refusals.{check-fails, check-holds, told-refused, size-true}
+use Rattle.coordinates.specs.Calls.{orderOfCoordinates}
+use Rattle.code.specs.Words.{K}
+use Rattle.code.specs.Calls.{codewordOf}
+use Rattle.code.proofs.Laws.{K-entry}
+use Rattle.code.proofs.Answers.{codeword-answer}
+use Rattle.code.proofs.codeword.Statement.{statement}
+use Rattle.code.proofs.codeword.Tie as tie
+
+is-size-requires : tie.Need-is-size-requires
+is-size-requires c κs = search needs
+
+no-order-requires : tie.Need-no-order-requires
+no-order-requires c κs = search needs
+
+returns : tie.Need-returns
+unfolding codewordOf
+returns c =
+    c .no-order .ensures ∙ told-refused _ _ _ Size (check-fails _ _ (sym (c .before .before .is-size .ensures) ∙ not-true _ (c .before .if1 .taken)))
+
+-- the size has passed
+sized : (c : tie.Else1) → isSize (c .before .before .args .n) ≡ true
+sized c = sym (c .before .is-size .ensures) ∙ not-false _ (c .if1 .left)
+
+tail-counts-requires : tie.Need-tail-counts-requires
+tail-counts-requires c κs = search needs
+
+tail-count-requires : tie.Need-tail-count-requires
+tail-count-requires c κs =
+    let (low, high) = size-true _ (sized (c .before .before)) in
+    (c .before .tail-counts .ensures, record { low = low; high = high; first = omega arith; last = omega arith; residue = omega arith })
+
+-- the entry that was read is K(n)
+entry : (c : tie.After-tail-count) → c .tail-count .result ≡ K (c .before .before .before .before .before .args .n)
+entry c =
+    let d = c .before .before .before in
+    let n = d .before .before .args .n in
+    let (low, high) = size-true n (sized d) in
+    c .tail-count .ensures ∙ K-entry n (omega arith)
+
+no-order-requires-2 : tie.Need-no-order-requires-2
+no-order-requires-2 c κs = search needs
+
+returns-2 : tie.Need-returns-2
+unfolding codewordOf
+returns-2 c =
+    let d = c .before .before in
+    let s = d .before .before .before in
+    let a = s .before .before .args in
+    let none : K (a .n) ≤ a .symbol = omega (arith, entry d) in
+    c .no-order2 .ensures ∙ told-refused _ _ _ NoSymbol (check-holds _ _ (sized s) ∙ check-fails _ _ (le-ltb (a .symbol) (K (a .n)) none))
+
+-- the symbol is below K(n)
+some : (c : tie.Else2) → let a = c .before .before .before .before .before .before .args in a .symbol < K (a .n)
+some c = omega (arith, entry (c .before))
+
+word-requires : tie.Need-word-requires
+word-requires c κs =
+    let d = c .before .before .before .before in
+    (d .tail-counts .ensures, (sized (d .before), some (c .before)))
+
+from-coordinates-requires : tie.Need-from-coordinates-requires
+from-coordinates-requires c κs = search needs
+
+returns-3 : tie.Need-returns-3
+returns-3 c =
+    let w = c .before in
+    let d = w .before .before in
+    let s = d .before .before .before .before in
+    let n = s .before .before .args .n in
+    let (low, high) = size-true n (sized s) in
+    c .from-coordinates .ensures ∙ ap orderOfCoordinates (w .word .ensures) ∙ codeword-answer n _ low high (some d)
+
+pub codeword-spec : {M : Type 1} → statement M
+codeword-spec =
+    tie.close
+    (tie.spec
+    is-size-requires
+    no-order-requires
+    returns
+    tail-counts-requires
+    tail-count-requires
+    no-order-requires-2
+    returns-2
+    word-requires
+    from-coordinates-requires
+    returns-3)

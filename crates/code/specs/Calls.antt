@@ -1,0 +1,84 @@
+-- What the calls of the one-error code answer.
+--
+--   toldWords, toldTest        what an answer says: its number, and K(n), or yes or no
+--   Reading                    a symbol and a verdict; none beside a refusal
+--   toldDecode                 what an answer says: its number, and the reading
+--   verdictAt k                clean for place 0, else put right at place k
+--   readingAt n u k            what u reads as where the exchange at place k is put right
+--   codewordChecks, decodeChecks                   the checks of these calls: 1, 5, and 1, 4, 7
+--   wordsOf, codewordOf, isCodewordOf, decodeOf    the answers to `words`, `codeword`, `is_codeword` and `decode`
+use mathlib.Core.Bool.{Bool, false}
+use mathlib.Core.List.{List, [], _∷_, _++_}
+use mathlib.Core.Option.{Option, none, some}
+use Prim.Native.Nat.{ℕ, zero, suc}
+use lib.Dec.{ltb}
+use Rattle.order.specs.declared.Order.{Order}
+use Rattle.order.specs.declared.Refusal.{Refusal}
+use Rattle.order.specs.declared.Refusal.the-variants.{Size, NoSymbol, Lost}
+use Rattle.order.specs.Refusals.{refusalNumber, Told, answer, isSize}
+use Rattle.order.specs.Order.{listed, orderChecks, orderRecord, noOrder}
+use Rattle.coordinates.specs.Coordinates.{orderFrom}
+use Rattle.coordinates.specs.Calls.{coordinateAt}
+use Rattle.distance.specs.Distance.{exchange}
+use Rattle.code.specs.declared.WordsAnswer.{WordsAnswer}
+use Rattle.code.specs.declared.WordsAnswer.the-variants as words
+use Rattle.code.specs.declared.Verdict.{Verdict}
+use Rattle.code.specs.declared.Verdict.the-variants.{Clean, PutRight}
+use Rattle.code.specs.declared.TestAnswer.{TestAnswer}
+use Rattle.code.specs.declared.TestAnswer.the-variants as test
+use Rattle.code.specs.declared.DecodeAnswer.{DecodeAnswer}
+use Rattle.code.specs.declared.DecodeAnswer.the-variants as decode
+use Rattle.code.specs.Words.{K, wordAt}
+use Rattle.code.specs.Decoding.{isCodeword, correction, symbolOf}
+
+-- ---- the number of codewords
+
+abbrev pub toldWords : WordsAnswer → Told ℕ
+toldWords (words.Refused refusal) = record { number = refusalNumber refusal; value = 0 }
+toldWords (words.Words k) = record { number = 0; value = k }
+
+unfoldable pub wordsOf : ℕ → Told ℕ
+wordsOf n = answer ((isSize n, Size) ∷ []) (K n) 0
+
+-- ---- the codeword of a symbol, as an order
+
+abbrev pub codewordChecks : ℕ → ℕ → List (Bool × Refusal)
+codewordChecks n symbol = (isSize n, Size) ∷ (ltb symbol (K n), NoSymbol) ∷ []
+
+unfoldable pub codewordOf : ℕ → ℕ → Told Order
+codewordOf n symbol = answer (codewordChecks n symbol) (orderRecord (orderFrom (coordinateAt (wordAt n symbol)) n)) noOrder
+
+-- ---- the test
+
+abbrev pub toldTest : TestAnswer → Told Bool
+toldTest (test.Refused refusal) = record { number = refusalNumber refusal; value = false }
+toldTest (test.Tested b) = record { number = 0; value = b }
+
+unfoldable pub isCodewordOf : Order → Told Bool
+isCodewordOf o = answer (orderChecks o) (isCodeword (o .len) (listed o)) false
+
+-- ---- decoding
+
+pub record Reading : Type 0 where
+  pub symbol : ℕ
+  pub verdict : Option Verdict
+
+abbrev pub noReading : Reading
+noReading = record { symbol = 0; verdict = none }
+
+abbrev pub verdictAt : ℕ → Verdict
+verdictAt zero = Clean
+verdictAt (suc k) = PutRight (record { 0 = suc k })
+
+unfoldable pub readingAt : ℕ → List ℕ → ℕ → Reading
+readingAt n u k = record { symbol = symbolOf n (exchange k u); verdict = some (verdictAt k) }
+
+abbrev pub toldDecode : DecodeAnswer → Told Reading
+toldDecode (decode.Refused refusal) = record { number = refusalNumber refusal; value = noReading }
+toldDecode (decode.Decoded symbol verdict) = record { number = 0; value = record { symbol = symbol; verdict = some verdict } }
+
+abbrev pub decodeChecks : Order → List (Bool × Refusal)
+decodeChecks o = orderChecks o ++ (ltb (correction (o .len) (listed o)) (o .len), Lost) ∷ []
+
+unfoldable pub decodeOf : Order → Told Reading
+decodeOf o = answer (decodeChecks o) (readingAt (o .len) (listed o) (correction (o .len) (listed o))) noReading

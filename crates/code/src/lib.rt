@@ -1,0 +1,307 @@
+// The one-error code (document 01, "The one-error code"; SD 003, construction 8, code C1): its codewords, their numbers, and the
+// decoder. Every public function takes any value and answers it by one equation with a definition of specs/. Proved besides:
+// number and word undo each other; at most one codeword is within distance 1 of an order; `decode` finds a codeword exactly when it
+// is within distance 1, and says lost exactly when there is none (proofs/).
+mod table;
+
+use coordinates::Coordinates;
+use order::Order;
+use order::OrderAnswer;
+use order::Outcome;
+use order::Rank;
+use order::Refusal;
+ghost use mathlib.Core.Path.{_≡_};
+ghost use mathlib.Core.Bool.{true};
+ghost use Prim.Native.Nat.{_+_, _%_, _≤_, _<_};
+ghost use lib.Dec.{T};
+ghost use lib.ListN.{take};
+ghost use Rattle.order.specs.Refusals.{isSize};
+ghost use Rattle.order.specs.Order.{listed, toldOrder};
+ghost use Rattle.code.specs.Words.{modulus, weight, K, wordAt, numberOf};
+ghost use Rattle.code.specs.Decoding.{correction, symbolOf};
+ghost use Rattle.code.specs.Calls.{toldWords, wordsOf, codewordOf, toldTest, isCodewordOf, toldDecode, decodeOf};
+ghost use Rattle.code.specs.Tails.{tails, Entry, owed, having, before};
+ghost use Rattle.code.specs.Table.{tableRight, offsetsRight};
+ghost use Rattle.code.specs.Steps.{held, isWord, Choosing, Chosen, Misread, correctsBy, Exchangeable, exchangedOrder, Codeword};
+
+pub enum WordsAnswer {
+    Refused(Refusal),
+    Words(u32),
+}
+
+// What a reading found: a codeword, or one with the cells of ranks k and k + 1 exchanged.
+pub enum Verdict {
+    Clean,
+    PutRight(Rank),
+}
+
+pub enum TestAnswer {
+    Refused(Refusal),
+    Tested(bool),
+}
+
+pub enum DecodeAnswer {
+    Refused(Refusal),
+    Decoded { symbol: u32, verdict: Verdict },
+}
+
+// A coordinate, and the number that is left for the later ones.
+struct Choice {
+    value: usize,
+    number: u32,
+}
+
+// K(n), the number of codewords of n cells.
+pub fn words(n: usize) -> WordsAnswer
+    ensures { λ r. ⌜ toldWords r ≡ wordsOf n ⌝ }
+{
+    if !order::is_size(n) {
+        return WordsAnswer::Refused(Refusal::Size);
+    }
+    let counts = tail_counts();
+    WordsAnswer::Words(tail_count(&counts, n, 1, 0))
+}
+
+// The codeword of a number, as an order.
+pub fn codeword(n: usize, symbol: u32) -> OrderAnswer
+    ensures { λ r. ⌜ toldOrder r ≡ codewordOf n symbol ⌝ }
+{
+    if !order::is_size(n) {
+        return order::no_order(Refusal::Size);
+    }
+    let counts = tail_counts();
+    if tail_count(&counts, n, 1, 0) <= symbol {
+        return order::no_order(Refusal::NoSymbol);
+    }
+    coordinates::from_coordinates(word(&counts, n, symbol))
+}
+
+// The coordinates of the codeword of a number.
+fn word(counts: &[u32; 1215], n: usize, symbol: u32) -> Coordinates
+    requires { ⌜ T (tableRight (now counts)) ⌝ }
+    requires { ⌜ (isSize n ≡ true) × (symbol < K n) ⌝ }
+    ensures { λ x. ⌜ x ≡ held (wordAt n symbol) ⌝ }
+{
+    let mut values = [0u8; 11];
+    let mut number = symbol;
+    let mut r: usize = 0;
+    let mut i: usize = 1;
+    while i < n {
+        let c = choose(counts, n, i, r, number);
+        let v = c.value;
+        values[i - 1] = v as u8;
+        number = c.number;
+        r = residue_after(n, i, r, v);
+        i += 1;
+    }
+    Coordinates { len: n - 1, values }
+}
+
+// Coordinate i of the word that is the given one among those whose coordinates from i on leave r.
+fn choose(counts: &[u32; 1215], n: usize, i: usize, r: usize, number: u32) -> Choice
+    requires { ⌜ T (tableRight (now counts)) ⌝ }
+    requires { ⌜ Choosing n i r ⌝ }
+    requires { ⌜ number < tails n i r ⌝ }
+    ensures { λ c. ⌜ Chosen n i r number c ⌝ }
+{
+    let mut v: usize = 0;
+    let mut left = number;
+    loop {
+        let count = count_with(counts, n, i, r, v);
+        if left < count {
+            return Choice {
+                value: v,
+                number: left,
+            };
+        }
+        left -= count;
+        v += 1;
+    }
+}
+
+// The number of words whose coordinates from i on leave r and whose coordinate i is v.
+fn count_with(counts: &[u32; 1215], n: usize, i: usize, r: usize, v: usize) -> u32
+    requires { ⌜ T (tableRight (now counts)) ⌝ }
+    requires { ⌜ Choosing n i r ⌝ }
+    requires { ⌜ v ≤ i ⌝ }
+    ensures { λ c. ⌜ c ≡ having n i r v ⌝ }
+{
+    tail_count(counts, n, i + 1, residue_after(n, i, r, v))
+}
+
+// What the coordinates after i must leave, for all from i on to leave r, where coordinate i is v.
+fn residue_after(n: usize, i: usize, r: usize, v: usize) -> usize
+    requires { ⌜ Choosing n i r ⌝ }
+    requires { ⌜ v ≤ i ⌝ }
+    ensures { λ s. ⌜ s ≡ owed (modulus n) i r v ⌝ }
+    ensures { λ s. ⌜ s < modulus n ⌝ }
+{
+    let m = 2 * n - 1;
+    (r + (m - i * v % m)) % m
+}
+
+// The number of ways to choose coordinates i to n - 1 whose weighted sum leaves r.
+fn tail_count(counts: &[u32; 1215], n: usize, i: usize, r: usize) -> u32
+    requires { ⌜ T (tableRight (now counts)) ⌝ }
+    requires { ⌜ Entry n i r ⌝ }
+    ensures { λ c. ⌜ c ≡ tails n i r ⌝ }
+{
+    let starts = offsets();
+    counts[starts[n] + (i - 1) * (2 * n - 1) + r]
+}
+
+// The table of counts, which passes the test of its recurrence.
+fn tail_counts() -> [u32; 1215]
+    ensures { λ t. ⌜ T (tableRight t) ⌝ }
+{
+    table::COUNTS
+}
+
+// Where the counts of each size start in the table.
+fn offsets() -> [usize; 13]
+    ensures { λ t. ⌜ T (offsetsRight t) ⌝ }
+{
+    table::OFFSETS
+}
+
+// Whether an order is a codeword.
+pub fn is_codeword(o: Order) -> TestAnswer
+    ensures { λ r. ⌜ toldTest r ≡ isCodewordOf o ⌝ }
+{
+    let answer = coordinates::coordinates_of(o);
+    let outcome = answer.outcome;
+    if let Outcome::Refused(refusal) = outcome {
+        return TestAnswer::Refused(refusal);
+    }
+    TestAnswer::Tested(syndrome(answer.coordinates) == 0)
+}
+
+// What the weighted sum of the coordinates leaves on division by 2n - 1.
+fn syndrome(x: Coordinates) -> usize
+    requires { ⌜ (1 ≤ x .len) × (x .len ≤ 11) ⌝ }
+    ensures { λ s. ⌜ s ≡ weight 1 (take (x .len) (x .values)) % modulus (x .len + 1) ⌝ }
+{
+    let m = x.len;
+    let mut sum: usize = 0;
+    let mut i: usize = 1;
+    while i <= m {
+        sum += i * (x.values[i - 1] as usize);
+        i += 1;
+    }
+    sum % (2 * m + 1)
+}
+
+// The number of the codeword with these coordinates: the words before it, coordinate by coordinate.
+fn number(x: Coordinates) -> u32
+    requires { ⌜ (isSize (x .len + 1) ≡ true) × (isWord (x .len + 1) (take (x .len) (x .values)) ≡ true) ⌝ }
+    ensures { λ s. ⌜ s ≡ numberOf (x .len + 1) (take (x .len) (x .values)) ⌝ }
+{
+    let n = x.len + 1;
+    let counts = tail_counts();
+    let mut sum: u32 = 0;
+    let mut r: usize = 0;
+    let mut i: usize = 1;
+    while i < n {
+        let v = x.values[i - 1] as usize;
+        sum += count_before(&counts, n, i, r, v);
+        r = residue_after(n, i, r, v);
+        i += 1;
+    }
+    sum
+}
+
+// The number of words whose coordinates from i on leave r and whose coordinate i is below v.
+fn count_before(counts: &[u32; 1215], n: usize, i: usize, r: usize, v: usize) -> u32
+    requires { ⌜ T (tableRight (now counts)) ⌝ }
+    requires { ⌜ Choosing n i r ⌝ }
+    requires { ⌜ v ≤ i ⌝ }
+    ensures { λ c. ⌜ c ≡ before n i r v ⌝ }
+{
+    let mut count: u32 = 0;
+    let mut u: usize = 0;
+    while u < v {
+        count += count_with(counts, n, i, r, u);
+        u += 1;
+    }
+    count
+}
+
+// The codeword that an order reads as, by its number, and the verdict.
+pub fn decode(o: Order) -> DecodeAnswer
+    ensures { λ r. ⌜ toldDecode r ≡ decodeOf o ⌝ }
+{
+    let answer = coordinates::coordinates_of(o);
+    let outcome = answer.outcome;
+    if let Outcome::Refused(refusal) = outcome {
+        return DecodeAnswer::Refused(refusal);
+    }
+    let x = answer.coordinates;
+    let s = syndrome(x);
+    if s == 0 {
+        return DecodeAnswer::Decoded {
+            symbol: number(x),
+            verdict: Verdict::Clean,
+        };
+    }
+    let k = exchange_for(o, s);
+    if o.len <= k {
+        return DecodeAnswer::Refused(Refusal::Lost);
+    }
+    DecodeAnswer::Decoded {
+        symbol: symbol_of(exchanged(o, k)),
+        verdict: Verdict::PutRight(Rank(k as u8)),
+    }
+}
+
+// The first place at which a neighbour exchange makes an order whose syndrome is s, not 0, a codeword; n where there is none.
+fn exchange_for(o: Order, s: usize) -> usize
+    requires { ⌜ Misread o s ⌝ }
+    ensures { λ k. ⌜ k ≡ correction (o .len) (listed o) ⌝ }
+{
+    let n = o.len;
+    let mut k: usize = 1;
+    while k < n {
+        let above = o.cells[k - 1].number();
+        let below = o.cells[k].number();
+        if corrects(n, s, above, below) {
+            return k;
+        }
+        k += 1;
+    }
+    n
+}
+
+// Whether the exchange of a cell and the one just below it makes the syndrome 0: it changes the weighted sum by the greater number
+// less 1, up where the lower cell has it, down where the higher has it.
+fn corrects(n: usize, s: usize, above: usize, below: usize) -> bool
+    requires { ⌜ (1 ≤ n) × (n ≤ 12) × (s < modulus n) × (1 ≤ above) × (above ≤ n) × (1 ≤ below) × (below ≤ n) ⌝ }
+    ensures { λ b. ⌜ b ≡ correctsBy n s above below ⌝ }
+{
+    if above < below {
+        s + (below - 1) == 2 * n - 1
+    } else {
+        s == above - 1
+    }
+}
+
+// The order with the cells of ranks k and k + 1 exchanged.
+fn exchanged(o: Order, k: usize) -> Order
+    requires { ⌜ Exchangeable o k ⌝ }
+    ensures { λ r. ⌜ r ≡ exchangedOrder o k ⌝ }
+{
+    let mut next = o;
+    let above = o.cells[k - 1];
+    let below = o.cells[k];
+    next.cells[k - 1] = below;
+    next.cells[k] = above;
+    next
+}
+
+// The number of a codeword.
+fn symbol_of(o: Order) -> u32
+    requires { ⌜ Codeword o ⌝ }
+    ensures { λ s. ⌜ s ≡ symbolOf (o .len) (listed o) ⌝ }
+{
+    let answer = coordinates::coordinates_of(o);
+    number(answer.coordinates)
+}
