@@ -13,7 +13,7 @@ use Rattle.coordinates.specs.Coordinates.{coordinateOf, coordinatesTo}
 use Rattle.distance.specs.Distance.{exchange}
 use Rattle.code.specs.declared.Verdict.{Verdict}
 use Rattle.code.specs.declared.Verdict.the-variants.{Clean, PutRight}
-use Rattle.code.specs.Words.{joined, select, same, indexOf, vectorsFrom, weight, leaves, vectors, words, numberOf}
+use Rattle.code.specs.Words.{joined, select, same, indexOf, vectorsFrom, weight, leaves, vectors, words, wordNumber}
 use Rattle.code.specs.Decoding.{isCodeword, firstBelow, correction, symbolOf}
 use Rattle.code.specs.Calls.{Reading, noReading, readingAt, decodeOf}
 
@@ -25,7 +25,7 @@ pub case-3 :
     (exchange 2 (3 ∷ 4 ∷ 1 ∷ 2 ∷ []) ≡ 3 ∷ 1 ∷ 4 ∷ 2 ∷ [])
     × (correction 4 (3 ∷ 4 ∷ 1 ∷ 2 ∷ []) ≡ 2)
     × (decodeOf (orderRecord (3 ∷ 4 ∷ 1 ∷ 2 ∷ [])) ≡ readAs 1 (PutRight (record { 0 = 2 })))
-unfolding decodeOf readingAt refusals.answer refusals.numberOf isListing isOrder eachOnce allZero cellNumbers orderRecord correction firstBelow isCodeword symbolOf numberOf indexOf same words vectors vectorsFrom joined select leaves weight coordinatesTo coordinateOf
+unfolding decodeOf readingAt refusals.answer refusals.numberOf isListing isOrder eachOnce allZero cellNumbers orderRecord correction firstBelow isCodeword symbolOf wordNumber indexOf same words vectors vectorsFrom joined select leaves weight coordinatesTo coordinateOf
 case-3 = (refl, refl, refl)
 
 -- the four words are codewords, and read as themselves
@@ -38,7 +38,7 @@ pub case-5 :
     × (decodeOf (orderRecord (3 ∷ 1 ∷ 4 ∷ 2 ∷ [])) ≡ readAs 1 Clean)
     × (decodeOf (orderRecord (2 ∷ 4 ∷ 1 ∷ 3 ∷ [])) ≡ readAs 2 Clean)
     × (decodeOf (orderRecord (4 ∷ 3 ∷ 2 ∷ 1 ∷ [])) ≡ readAs 3 Clean)
-unfolding decodeOf readingAt refusals.answer refusals.numberOf isListing isOrder eachOnce allZero cellNumbers orderRecord correction firstBelow isCodeword symbolOf numberOf indexOf same words vectors vectorsFrom joined select leaves weight coordinatesTo coordinateOf
+unfolding decodeOf readingAt refusals.answer refusals.numberOf isListing isOrder eachOnce allZero cellNumbers orderRecord correction firstBelow isCodeword symbolOf wordNumber indexOf same words vectors vectorsFrom joined select leaves weight coordinatesTo coordinateOf
 case-5 = (refl, refl, refl, refl, refl, refl, refl, refl)
 
 -- lost; in case 7 though one coordinate, changed by one, would make word 1

@@ -22,7 +22,7 @@ use Rattle.coordinates.specs.Coordinates.{coordinateOf, coordinatesTo, orderFro
 use Rattle.coordinates.specs.Calls.{coordinatesOf, coordinateAt, orderByCoordinates, coordinateChecks}
 use Rattle.coordinates.proofs.Range.{all-in-range}
 use Rattle.coordinates.proofs.RoundTrip.{order-ext, coordinate-back, coordinates-low, order-of-coordinates, order-of-any}
-use Rattle.code.specs.Words.{modulus, weight, leaves, K, wordAt, numberOf}
+use Rattle.code.specs.Words.{modulus, weight, leaves, K, wordAt, wordNumber}
 use Rattle.code.specs.Decoding.{isCodeword}
 use Rattle.code.specs.Steps.{held, ranged, isWord, syndromeOf}
 use Rattle.code.proofs.Tests.{is-true, and-left, and-right, and-both}
@@ -118,7 +118,7 @@ module _ (n : ℕ) (pos : 0 < n) (s : ℕ) (h : s < K n) where
   symbol-codeword = word-codeword n pos (wordAt n s) (word-is-word n pos s h)
 
   -- its number is that number
-  pub symbol-back : numberOf n (coordinatesTo (n - 1) (orderFrom (coordinateAt (wordAt n s)) n)) ≡ s
+  pub symbol-back : wordNumber n (coordinatesTo (n - 1) (orderFrom (coordinateAt (wordAt n s)) n)) ≡ s
   symbol-back = rw symbol-coordinates (number-of-word n pos s h)
 
 -- ---- the coordinates of an order
@@ -140,7 +140,7 @@ module _ (n : ℕ) (pos : 0 < n) (u : List ℕ) (o : isOrder n u ≡ true) where
   coordinate-held (suc k) l = getD-tabulate (n - 1) (λ k. coordinateOf u (suc k)) k 0 (omega arith)
 
   -- a codeword is the codeword of its number
-  pub number-of-codeword : isCodeword n u ≡ true → orderFrom (coordinateAt (wordAt n (numberOf n (coordinatesTo (n - 1) u)))) n ≡ u
+  pub number-of-codeword : isCodeword n u ≡ true → orderFrom (coordinateAt (wordAt n (wordNumber n (coordinatesTo (n - 1) u)))) n ≡ u
   number-of-codeword c =
       rw (word-of-number n pos (coordinatesTo (n - 1) u) (codeword-word c))
       (order-ext n _ _ coordinate-held ∙ order-of-coordinates n u o)

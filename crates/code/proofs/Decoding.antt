@@ -15,13 +15,13 @@ use mathlib.Core.Path.{_≡_, refl, sym, ap, subst, _∙_}
 use mathlib.Core.Logic.{⊎-elim, _↔_}
 use mathlib.Core.Bool.{Bool, true, false, true≢false}
 use mathlib.Core.List.{List, [], _∷_}
-use lib.ListN.{length, getD}
+use lib.ListN.{getD}
 use borrow.Author.Tests.{eqb-true}
-use Rattle.order.specs.Cells.{count, isOrder}
-use Rattle.order.proofs.Inverse.{count-at}
+use Rattle.order.specs.Cells.{placeOf, isOrder}
+use Rattle.order.proofs.Inverse.{own-place}
 use Rattle.order.proofs.Cells.{IsOrder, order-true, true-order}
 use Rattle.distance.specs.Distance.{opposed, exchange}
-use Rattle.distance.proofs.Counts.{Distinct, distinct-head, distinct-rest, order-distinct, order-same}
+use Rattle.distance.proofs.Counts.{order-distinct, order-same}
 use Rattle.distance.proofs.Exchange.{place-of, exchange-cases, exchanged-order}
 use Rattle.distance.proofs.Opposed.{least, within-one}
 use Rattle.distance.proofs.Apart.{exchange-twice}
@@ -40,18 +40,13 @@ pub record OneExchange (n : ℕ) (u : List ℕ) (k : ℕ) : Type 0 where
   pub near : opposed u (exchange k u) ≡ 1
   pub only : (j : ℕ) → j < n → isCodeword n (exchange j u) ≡ true → j ≡ k
 
--- ---- a cell of a list without doubles stands at one place
-
-one-place : {u : List ℕ} → Distinct u → (j k : ℕ) → j < length u → k < length u → getD u j 0 ≡ getD u k 0 → j ≡ k
-one-place {u = []} d j k g h e = absurd (omega arith)
-one-place {u = x ∷ u} d zero zero g h e = refl
-one-place {u = x ∷ u} d zero (suc k) g h e = absurd (omega (arith, distinct-head d, count-at k u (omega arith), ap (λ (c : ℕ). count c u) e))
-one-place {u = x ∷ u} d (suc j) zero g h e = absurd (omega (arith, distinct-head d, count-at j u (omega arith), ap (λ (c : ℕ). count c u) e))
-one-place {u = x ∷ u} d (suc j) (suc k) g h e = ap suc (one-place (distinct-rest d) j k (omega arith) (omega arith) e)
-
 -- ---- one place at most
 
 module _ (n : ℕ) (u : List ℕ) (o : IsOrder n u) where
+  -- a cell stands at one place
+  one-place : (j k : ℕ) → j < n → k < n → getD u j 0 ≡ getD u k 0 → j ≡ k
+  one-place j k g h e = omega (arith, own-place n u o j g, own-place n u o k h, ap (placeOf u) e)
+
   -- an exchange makes no codeword of a codeword
   codeword-apart : (k : ℕ) → suc k < n → isCodeword n u ≡ true → isCodeword n (exchange (suc k) u) ≡ true → ⊥
   codeword-apart k h c d =
@@ -64,11 +59,9 @@ module _ (n : ℕ) (u : List ℕ) (o : IsOrder n u) where
   one-exchange j k g h c d =
       let (p, q, _) = place-cells n u o j g in
       let (r, s, _) = place-cells n u o k h in
-      let once = one-place (order-distinct o) in
-      let size = o .size in
       ⊎-elim
-      (λ t. ⊎-elim (λ w. once (suc j) (suc k) (omega arith) (omega arith) (omega arith)) (λ w. absurd (omega arith)) (correcting n u o k h d))
-      (λ t. ⊎-elim (λ w. absurd (omega arith)) (λ w. ap suc (once j k (omega arith) (omega arith) (omega arith))) (correcting n u o k h d))
+      (λ t. ⊎-elim (λ w. one-place (suc j) (suc k) g h (omega arith)) (λ w. absurd (omega arith)) (correcting n u o k h d))
+      (λ t. ⊎-elim (λ w. absurd (omega arith)) (λ w. ap suc (one-place j k (omega arith) (omega arith) (omega arith))) (correcting n u o k h d))
       (correcting n u o j g c)
 
 module _ (n : ℕ) (u : List ℕ) (t : isOrder n u ≡ true) where

@@ -9,7 +9,7 @@ use mathlib.Core.Logic.{_⊎_, inl, inr}
 use mathlib.Core.List.{List, [], _∷_}
 use lib.ListN.{getD}
 use Rattle.code.specs.Words.{Earlier, here, later, modulus, K, wordAt, words, vectors}
-use Rattle.code.specs.Tails.{tails, tailsFrom, owed, none}
+use Rattle.code.specs.Tails.{tails, tailsFrom, owed, nothing}
 use Rattle.code.proofs.Lists.{sum-term}
 use Rattle.code.proofs.Numbering.{wordsFrom, below, owed-lt, word-suc, pick}
 use Rattle.code.proofs.Laws.{K-entry}
@@ -27,10 +27,10 @@ module _ (m : ℕ) (pos : 0 < m) where
   unfolding below
   below-less k i r v w t l h = omega (arith, sum-term (λ u. tailsFrom m k (suc i) (owed m i r u)) w v l)
 
-  none-lt : (r s t : ℕ) → s < t → t < none r → ⊥
-  unfolding none
-  none-lt zero s t l h = omega arith
-  none-lt (suc r) s t l h = omega arith
+  nothing-lt : (r s t : ℕ) → s < t → t < nothing r → ⊥
+  unfolding nothing
+  nothing-lt zero s t l h = omega arith
+  nothing-lt (suc r) s t l h = omega arith
 
   -- two words of k + 1 coordinates: by their first ones, or where these are the same by the others
   by-first :
@@ -45,7 +45,7 @@ module _ (m : ℕ) (pos : 0 < m) where
 
   in-order : (k i : ℕ) → InOrder k i
   unfolding tailsFrom
-  in-order zero i r s t h l ht = absurd (none-lt r s t l ht)
+  in-order zero i r s t h l ht = absurd (nothing-lt r s t l ht)
   in-order (suc k) i r s t h l ht =
       let hs : s < tailsFrom m (suc k) i r = omega arith in
       let (v, lv, a, la, ea) = pick m pos k i r s hs in

@@ -1,5 +1,4 @@
--- The numbering as the specifications name it: numbers and words undo each other, K(n) and each count of the table are numbers of choices,
--- and the words stand in dictionary order.
+-- The numbering as the specifications name it: numbers and words undo each other, and K(n) and each count of the table are numbers of choices.
 -- Assumes nothing.
 use mathlib.Core.Path.{_≡_, sym, _∙_, subst}
 use mathlib.Core.Bool.{true, _&&_}
@@ -10,7 +9,7 @@ use lib.Dec.{T, eqb}
 use lib.ListN.{length, getD}
 use borrow.Author.Tests.{eqb-true, eq-eqb}
 use Rattle.order.proofs.Cells.{both}
-use Rattle.code.specs.Words.{modulus, select, leaves, vectorsFrom, vectors, words, K, wordAt, numberOf}
+use Rattle.code.specs.Words.{modulus, select, leaves, vectorsFrom, vectors, words, K, wordAt, wordNumber}
 use Rattle.code.specs.Tails.{tails, Entry}
 use Rattle.code.specs.Table.{offsetOf, tableRight}
 use Rattle.code.specs.Steps.{ranged, isWord}
@@ -50,8 +49,8 @@ module _ (n : ℕ) (pos : 0 < n) where
   unfolding K tails words wordsFrom vectors
   K-entry = sym (count (modulus n) (omega arith) (n - 1) 1 0 (omega arith))
 
-  pub number-of-word : (s : ℕ) → s < K n → numberOf n (wordAt n s) ≡ s
-  unfolding numberOf wordAt tails words wordsFrom vectors
+  pub number-of-word : (s : ℕ) → s < K n → wordNumber n (wordAt n s) ≡ s
+  unfolding wordNumber wordAt tails words wordsFrom vectors
   number-of-word s h = number-word (modulus n) (omega arith) (n - 1) 1 0 s (omega arith) (rw (← K-entry) at h)
 
   pub word-is-word : (s : ℕ) → s < K n → isWord n (wordAt n s) ≡ true
@@ -60,12 +59,12 @@ module _ (n : ℕ) (pos : 0 < n) where
       let (size, range, sum) = word-right (modulus n) (omega arith) (n - 1) 1 0 s (omega arith) (rw (← K-entry) at h) in
       of-word n (wordAt n s) (record { size = size; range = range; sum = sum })
 
-  pub number-below : (x : List ℕ) → isWord n x ≡ true → numberOf n x < K n
-  unfolding numberOf tails words wordsFrom vectors
+  pub number-below : (x : List ℕ) → isWord n x ≡ true → wordNumber n x < K n
+  unfolding wordNumber tails words wordsFrom vectors
   number-below x w =
       let t = word-of n x w in
       rw (← K-entry, ← t .size) (found (modulus n) (omega arith) x 1 0 (omega arith) (t .range) (t .sum))
 
-  pub word-of-number : (x : List ℕ) → isWord n x ≡ true → wordAt n (numberOf n x) ≡ x
-  unfolding numberOf wordAt K
+  pub word-of-number : (x : List ℕ) → isWord n x ≡ true → wordAt n (wordNumber n x) ≡ x
+  unfolding wordNumber wordAt K
   word-of-number x w = getD-index x (words n) [] (number-below x w)

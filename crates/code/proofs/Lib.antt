@@ -20,5 +20,6 @@ pub mod Looking
 pub mod Told
 pub mod Row
 pub mod Reading
+pub mod Found
 pub mod Symbols
 pub mod BenchDecode

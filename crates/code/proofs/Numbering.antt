@@ -10,7 +10,7 @@ use lib.Dec.{T, leb, leb→le, le→leb, eqb→eq}
 use lib.ListN.{length, getD, length-map}
 use borrow.Author.Tests.{ne-eqb}
 use Rattle.code.specs.Words.{joined, select, weight, leaves, vectorsFrom, same, indexOf}
-use Rattle.code.specs.Tails.{sumBelow, owed, none, tailsFrom}
+use Rattle.code.specs.Tails.{sumBelow, owed, nothing, tailsFrom}
 use Rattle.code.specs.Steps.{ranged}
 use Rattle.code.proofs.Tests.{and-left, and-right, and-both}
 use Rattle.code.proofs.Residue.{shift}
@@ -68,7 +68,7 @@ module _ (m : ℕ) (pos : 0 < m) where
 
   -- the words that leave r are as many as the recurrence says
   pub count : (k : ℕ) → Counted k
-  unfolding tailsFrom none below
+  unfolding tailsFrom nothing below
   count zero i zero h = ap length (last-word i)
   count zero i (suc r) h = ap length (no-word i r)
   count (suc k) i r h = ap length (words-suc k i r h) ∙ length-parts k (count k) i r (suc i)
@@ -101,10 +101,10 @@ module _ (m : ℕ) (pos : 0 < m) where
   unfolding below tailsFrom
   pick k i r s h = within-sum (λ u. tailsFrom m k (suc i) (owed m i r u)) (suc i) s h
 
-  none-lt : (r s : ℕ) → s < none r → (r ≡ 0) × (s ≡ 0)
-  unfolding none
-  none-lt zero s h = (refl, omega arith)
-  none-lt (suc r) s h = absurd (not-suc-le-zero h)
+  nothing-lt : (r s : ℕ) → s < nothing r → (r ≡ 0) × (s ≡ 0)
+  unfolding nothing
+  nothing-lt zero s h = (refl, omega arith)
+  nothing-lt (suc r) s h = absurd (not-suc-le-zero h)
 
   -- of a word, the coordinates after the first are a word that leaves what is owed
   pub tail-word :
@@ -116,7 +116,7 @@ module _ (m : ℕ) (pos : 0 < m) where
 
   -- a word is found among the words
   pub found : (x : List ℕ) (i r : ℕ) → r < m → T (ranged i x) → T (leaves m i r x) → indexOf x (wordsFrom m (length x) i r) < tailsFrom m (length x) i r
-  unfolding leaves weight indexOf same tailsFrom none
+  unfolding leaves weight indexOf same tailsFrom nothing
   found [] i r h range sum = rw (sym (eqb→eq (0 % m) r sum), zero-mod, last-word) (le-refl 1)
   found (v ∷ x) i r h range sum =
       let (hv, range′, sum′) = tail-word i r v x h range sum in
@@ -127,7 +127,7 @@ module _ (m : ℕ) (pos : 0 < m) where
   pub number-word : (k i r s : ℕ) → r < m → s < tailsFrom m k i r → indexOf (getD (wordsFrom m k i r) s []) (wordsFrom m k i r) ≡ s
   unfolding tailsFrom indexOf same
   number-word zero i r s h hs =
-      let (e, z) = none-lt r s hs in
+      let (e, z) = nothing-lt r s hs in
       rw (e, z, last-word)
   number-word (suc k) i r s h hs =
       let (v, lv, t, lt, e) = pick k i r s hs in
@@ -141,7 +141,7 @@ module _ (m : ℕ) (pos : 0 < m) where
       → (length (getD (wordsFrom m k i r) s []) ≡ k) × T (ranged i (getD (wordsFrom m k i r) s [])) × T (leaves m i r (getD (wordsFrom m k i r) s []))
   unfolding tailsFrom ranged leaves weight owed
   word-right zero i r s h hs =
-      let (e, z) = none-lt r s hs in
+      let (e, z) = nothing-lt r s hs in
       rw (e, z, last-word, zero-mod) (refl, tt, tt)
   word-right (suc k) i r s h hs =
       let (v, lv, t, lt, e) = pick k i r s hs in

@@ -22,8 +22,7 @@ use Rattle.coordinates.specs.Coordinates.{coordinatesTo}
 use Rattle.coordinates.specs.Calls.{toldCoordinates, coordinatesOfOrder}
 use Rattle.distance.specs.Distance.{exchange}
 use Rattle.code.specs.declared.Verdict.the-variants.{Clean, PutRight}
-use Rattle.code.specs.Words as words
-use Rattle.code.specs.Words.{modulus, weight}
+use Rattle.code.specs.Words.{modulus, weight, wordNumber}
 use Rattle.code.specs.Decoding.{isCodeword, correction, symbolOf}
 use Rattle.code.specs.Calls.{noReading, verdictAt, readingAt, decodeOf}
 use Rattle.code.specs.Steps.{isWord, syndromeOf, Misread, Exchangeable}
@@ -84,7 +83,7 @@ module _ (o : Order) (a : CoordinatesAnswer) (e : toldCoordinates a ≡ coordina
       rw (cells, same-cut)
       (size-in (o .len) (passed o d .0) (passed o d .1), codeword-word (o .len) low (listed o) (passed-listed o d) c)
 
-  pub read-number : words.numberOf (a .coordinates .len + 1) (cut (a .coordinates)) ≡ symbolOf (o .len) (listed o)
+  pub read-number : wordNumber (a .coordinates .len + 1) (cut (a .coordinates)) ≡ symbolOf (o .len) (listed o)
   unfolding symbolOf
   read-number = rw (cells, same-cut)
 

@@ -10,7 +10,7 @@ use lib.ListN.{getD}
 use lib.Seq.{getD-drop}
 use borrow.Author.Tests.{lt-ltb, le-ltb}
 use Rattle.code.specs.Words.{modulus}
-use Rattle.code.specs.Tails.{sumBelow, owed, none, tailsFrom, tails, Entry}
+use Rattle.code.specs.Tails.{sumBelow, owed, nothing, tailsFrom, tails, Entry}
 use Rattle.code.specs.Table.{all, offsetOf, blockOf, entry, due, blockRight, tableRight, offsetsRight}
 use Rattle.code.proofs.Tests.{all-at}
 
@@ -65,7 +65,7 @@ sum-bound c b h zero = omega arith
 sum-bound c b h (suc j) = omega (arith, sum-bound c b h j, h j, suc-mul j b)
 
 tails-ways : (m k i r : ℕ) → tailsFrom m k i r ≤ ways k i
-unfolding tailsFrom ways none
+unfolding tailsFrom ways nothing
 tails-ways m zero i zero = le-refl 1
 tails-ways m zero i (suc r) = omega arith
 tails-ways m (suc k) i r = sum-bound _ (ways k (suc i)) (λ v. tails-ways m k (suc i) (owed m i r v)) (suc i)

@@ -12,7 +12,7 @@ use lib.ListN.{length, length-drop}
 use Rattle.order.specs.Refusals.{isSize}
 use Rattle.order.proofs.Refusals.{size-true}
 use Rattle.coordinates.specs.declared.Coordinates.{Coordinates}
-use Rattle.code.specs.Words.{modulus, leaves, words, vectors, numberOf}
+use Rattle.code.specs.Words.{modulus, leaves, words, vectors, wordNumber}
 use Rattle.code.specs.Tails.{tails, owed, before}
 use Rattle.code.specs.Steps.{ranged, isWord, Choosing}
 use Rattle.code.proofs.Rule.{tails-fit}
@@ -35,10 +35,10 @@ pub record Summing (x : Coordinates) (sum r i : ℕ) : Type 0 where
   pub residue : r < modulus (cells x)
   pub range : T (ranged i (from x i))
   pub sum-leaves : T (leaves (modulus (cells x)) i r (from x i))
-  pub total : sum + numberFrom (cells x) i r (from x i) ≡ numberOf (cells x) (cut x)
+  pub total : sum + numberFrom (cells x) i r (from x i) ≡ wordNumber (cells x) (cut x)
 
 pub start : (x : Coordinates) → length (x .values) ≡ 11 → isSize (cells x) ≡ true → isWord (cells x) (cut x) ≡ true → Summing x 0 0 1
-unfolding numberOf words wordsFrom vectors
+unfolding wordNumber words wordsFrom vectors
 start x size s w =
     let (low, high) = size-true (cells x) s in
     let t = word-of (cells x) (cut x) w in
@@ -106,7 +106,7 @@ module _ (x : Coordinates) (sum r i : ℕ) (s : Summing x sum r i) where
           total = rw (e, e′) (omega (arith, split, s .total));
         }
 
-  pub end : x .len < i → sum ≡ numberOf n (cut x)
+  pub end : x .len < i → sum ≡ wordNumber n (cut x)
   end h =
       let none : n - i ≡ 0 = omega arith in
       rw (from-end x (s .sized) i h, none, number-zero (modulus n) (omega arith) i r, add-zero) at (s .total)

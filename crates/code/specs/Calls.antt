@@ -1,7 +1,7 @@
 -- What the calls of the one-error code answer.
 --
 --   toldWords, toldTest        what an answer says: its number, and K(n), or yes or no
---   Reading                    a symbol and a verdict; none beside a refusal
+--   Reading                    a symbol and a verdict; `noReading` beside a refusal: symbol 0, no verdict
 --   toldDecode                 what an answer says: its number, and the reading
 --   verdictAt k                clean for place 0, else put right at place k
 --   readingAt n u k            what u reads as where the exchange at place k is put right

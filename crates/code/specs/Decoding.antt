@@ -4,7 +4,7 @@
 --   firstBelow n test   the first k from 0 to n - 1 that passes the test, and n where none does
 --   correction n u      the place at which a neighbour exchange makes u a codeword: 0 where u is one itself, and n where u is lost
 --   symbolOf n u        the number of a codeword
---   Nearby n u c        c is a codeword of n cells at distance 0 or 1 from u
+--   Nearby n u c        c is a codeword of n cells at distance 0 or 1 from u. For the laws of decoding (proofs/Decoding, proofs/Found)
 use mathlib.Core.Path.{_≡_}
 use mathlib.Core.Bool.{Bool, true, cond}
 use mathlib.Core.List.{List}
@@ -13,7 +13,7 @@ use lib.Dec.{ltb}
 use Rattle.order.specs.Cells.{isOrder}
 use Rattle.coordinates.specs.Coordinates.{coordinatesTo}
 use Rattle.distance.specs.Distance.{opposed, exchange}
-use Rattle.code.specs.Words.{modulus, leaves, numberOf}
+use Rattle.code.specs.Words.{modulus, leaves, wordNumber}
 
 unfoldable pub isCodeword : ℕ → List ℕ → Bool
 isCodeword n u = leaves (modulus n) 1 0 (coordinatesTo (n - 1) u)
@@ -26,7 +26,7 @@ unfoldable pub correction : ℕ → List ℕ → ℕ
 correction n u = firstBelow n (λ k. isCodeword n (exchange k u))
 
 unfoldable pub symbolOf : ℕ → List ℕ → ℕ
-symbolOf n u = numberOf n (coordinatesTo (n - 1) u)
+symbolOf n u = wordNumber n (coordinatesTo (n - 1) u)
 
 pub record Nearby (n : ℕ) (u c : List ℕ) : Type 0 where
   pub order : isOrder n c ≡ true

@@ -1,6 +1,7 @@
--- What the code's loops hold part of the way: nothing that a public promise cites.
+-- Cited by the contracts of private functions and by laws: no promise of a public function rests on these definitions.
 --
 --   held x            the record of a list of coordinates; later places are 0
+--   ranged i x        each coordinate is in its range, where the first is coordinate i
 --   isWord n x        the list is a codeword's list of coordinates, each in its range
 --   Choosing n i r    coordinate i of n cells is chosen, where all from it on must leave r
 --   Chosen            coordinate i is the one that the word of a number has, and what is left of the number is that of the later coordinates
@@ -30,7 +31,6 @@ use Rattle.code.specs.Tails.{having, before}
 abbrev pub held : List ℕ → Coordinates
 held x = record { len = length x; values = x ++ replicate (11 - length x) 0 }
 
--- each coordinate is in its range, where the first is coordinate i
 unfoldable pub ranged : ℕ → List ℕ → Bool
 ranged i [] = true
 ranged i (v ∷ x) = leb v i && ranged (suc i) x

@@ -3,10 +3,10 @@
 --
 --   sumBelow f j       f 0 + f 1 + .. + f (j - 1)
 --   owed m i r v       what the later coordinates must leave, for all to leave r, where coordinate i is v
---   none r             nothing is chosen: 1 for r = 0, else 0
---   tailsFrom m k i r  how many choices of k coordinates from coordinate i on leave r
+--   nothing r             nothing is chosen: 1 for r = 0, else 0
+--   tailsFrom m k i r  how many choices of k coordinates from coordinate i on leave r, for r below m
 --   tails n i r        how many choices of the coordinates i to n - 1 leave r: the table's entry for n, start i, residue r
---   having n i r v     how many of them have coordinate i at v
+--   having n i r v     how many of them have coordinate i at v, for v from 0 to i
 --   before n i r v     how many of them have coordinate i below v
 --   Entry n i r        the table has such an entry: n from 3 to 12, start i from 1 to n, residue r below 2n - 1
 use Prim.Native.Nat.{ℕ, zero, suc, _+_, _-_, _*_, _%_, _≤_, _<_}
@@ -19,12 +19,12 @@ sumBelow f (suc j) = sumBelow f j + f j
 unfoldable pub owed : ℕ → ℕ → ℕ → ℕ → ℕ
 owed m i r v = (r + (m - i * v % m)) % m
 
-unfoldable pub none : ℕ → ℕ
-none zero = 1
-none (suc r) = 0
+unfoldable pub nothing : ℕ → ℕ
+nothing zero = 1
+nothing (suc r) = 0
 
 unfoldable pub tailsFrom : ℕ → ℕ → ℕ → ℕ → ℕ
-tailsFrom m zero i r = none r
+tailsFrom m zero i r = nothing r
 tailsFrom m (suc k) i r = sumBelow (λ v. tailsFrom m k (suc i) (owed m i r v)) (suc i)
 
 unfoldable pub tails : ℕ → ℕ → ℕ → ℕ

@@ -4,7 +4,7 @@
 --   joined f j          the lists f 0, f 1, .., f (j - 1), one after the other
 --   select test xs      the elements that pass the test, in their order
 --   same x y            the two lists of numbers are equal
---   indexOf x ys        the place, from 0, at which a list first stands among others
+--   indexOf x ys        the place, from 0, at which a list first stands among others; their number where it does not
 --   modulus n           the divisor 2n - 1
 --   vectorsFrom k i     all choices of k coordinates, the first of them coordinate i, in dictionary order: coordinate i runs from 0 to i
 --   weight i x          the sum of each coordinate times its number, where the first is coordinate i
@@ -13,8 +13,8 @@
 --   words n             the codewords: the weighted sum is divisible by 2n - 1
 --   K n                 the number of codewords
 --   wordAt n s          the codeword of number s: codewords are numbered from 0 by their place
---   numberOf n x        the number of a codeword
---   Earlier x y         x stands before y in a dictionary: it has less at the first place where they differ
+--   wordNumber n x      the number of a codeword; K n of a list that is none
+--   Earlier x y         x stands before y in a dictionary: it has less at the first place where they differ. For the law of the numbering
 use mathlib.Core.Bool.{Bool, true, false, cond, _&&_}
 use mathlib.Core.List.{List, [], _∷_, _++_, map}
 use Prim.Native.Nat.{ℕ, zero, suc, _+_, _-_, _*_, _%_, _<_}
@@ -66,8 +66,8 @@ K n = length (words n)
 unfoldable pub wordAt : ℕ → ℕ → List ℕ
 wordAt n s = getD (words n) s []
 
-unfoldable pub numberOf : ℕ → List ℕ → ℕ
-numberOf n x = indexOf x (words n)
+unfoldable pub wordNumber : ℕ → List ℕ → ℕ
+wordNumber n x = indexOf x (words n)
 
 pub data Earlier : List ℕ → List ℕ → Type 0 where
   here : {a b : ℕ} {x y : List ℕ} → a < b → Earlier (a ∷ x) (b ∷ y)

@@ -1,7 +1,7 @@
 // The one-error code (document 01, "The one-error code"; SD 003, construction 8, code C1): its codewords, their numbers, and the
 // decoder. Every public function takes any value and answers it by one equation with a definition of specs/. Proved besides:
-// number and word undo each other; at most one codeword is within distance 1 of an order; `decode` finds a codeword exactly when it
-// is within distance 1, and says lost exactly when there is none (proofs/).
+// number and word undo each other (proofs/Laws); at most one codeword is within distance 1 of an order (proofs/Decoding); `decode` finds
+// a codeword exactly when it is within distance 1, and says lost exactly when there is none (proofs/Found).
 mod table;
 
 use coordinates::Coordinates;
@@ -17,7 +17,7 @@ ghost use lib.Dec.{T};
 ghost use lib.ListN.{take};
 ghost use Rattle.order.specs.Refusals.{isSize};
 ghost use Rattle.order.specs.Order.{listed, toldOrder};
-ghost use Rattle.code.specs.Words.{modulus, weight, K, wordAt, numberOf};
+ghost use Rattle.code.specs.Words.{modulus, weight, K, wordAt, wordNumber};
 ghost use Rattle.code.specs.Decoding.{correction, symbolOf};
 ghost use Rattle.code.specs.Calls.{toldWords, wordsOf, codewordOf, toldTest, isCodewordOf, toldDecode, decodeOf};
 ghost use Rattle.code.specs.Tails.{tails, Entry, owed, having, before};
@@ -97,7 +97,7 @@ fn word(counts: &[u32; 1215], n: usize, symbol: u32) -> Coordinates
     Coordinates { len: n - 1, values }
 }
 
-// Coordinate i of the word that is the given one among those whose coordinates from i on leave r.
+// Coordinate i of the choice that is the given one among those of coordinates i to n - 1 that leave r.
 fn choose(counts: &[u32; 1215], n: usize, i: usize, r: usize, number: u32) -> Choice
     requires { ⌜ T (tableRight (now counts)) ⌝ }
     requires { ⌜ Choosing n i r ⌝ }
@@ -119,7 +119,7 @@ fn choose(counts: &[u32; 1215], n: usize, i: usize, r: usize, number: u32) -> Ch
     }
 }
 
-// The number of words whose coordinates from i on leave r and whose coordinate i is v.
+// The number of choices of coordinates i to n - 1 that leave r and have coordinate i at v.
 fn count_with(counts: &[u32; 1215], n: usize, i: usize, r: usize, v: usize) -> u32
     requires { ⌜ T (tableRight (now counts)) ⌝ }
     requires { ⌜ Choosing n i r ⌝ }
@@ -176,7 +176,7 @@ pub fn is_codeword(o: Order) -> TestAnswer
     TestAnswer::Tested(syndrome(answer.coordinates) == 0)
 }
 
-// What the weighted sum of the coordinates leaves on division by 2n - 1.
+// The syndrome: what the weighted sum of the coordinates leaves on division by 2n - 1.
 fn syndrome(x: Coordinates) -> usize
     requires { ⌜ (1 ≤ x .len) × (x .len ≤ 11) ⌝ }
     ensures { λ s. ⌜ s ≡ weight 1 (take (x .len) (x .values)) % modulus (x .len + 1) ⌝ }
@@ -194,7 +194,7 @@ fn syndrome(x: Coordinates) -> usize
 // The number of the codeword with these coordinates: the words before it, coordinate by coordinate.
 fn number(x: Coordinates) -> u32
     requires { ⌜ (isSize (x .len + 1) ≡ true) × (isWord (x .len + 1) (take (x .len) (x .values)) ≡ true) ⌝ }
-    ensures { λ s. ⌜ s ≡ numberOf (x .len + 1) (take (x .len) (x .values)) ⌝ }
+    ensures { λ s. ⌜ s ≡ wordNumber (x .len + 1) (take (x .len) (x .values)) ⌝ }
 {
     let n = x.len + 1;
     let counts = tail_counts();
@@ -210,7 +210,7 @@ fn number(x: Coordinates) -> u32
     sum
 }
 
-// The number of words whose coordinates from i on leave r and whose coordinate i is below v.
+// The number of choices of coordinates i to n - 1 that leave r and have coordinate i below v.
 fn count_before(counts: &[u32; 1215], n: usize, i: usize, r: usize, v: usize) -> u32
     requires { ⌜ T (tableRight (now counts)) ⌝ }
     requires { ⌜ Choosing n i r ⌝ }
@@ -271,8 +271,8 @@ fn exchange_for(o: Order, s: usize) -> usize
     n
 }
 
-// Whether the exchange of a cell and the one just below it makes the syndrome 0: it changes the weighted sum by the greater number
-// less 1, up where the lower cell has it, down where the higher has it.
+// Whether the exchange of a cell and the one just below it makes the syndrome 0: it changes the weighted sum by the greater of the two
+// numbers less 1, up where that cell stands below, down where it stands above.
 fn corrects(n: usize, s: usize, above: usize, below: usize) -> bool
     requires { ⌜ (1 ≤ n) × (n ≤ 12) × (s < modulus n) × (1 ≤ above) × (above ≤ n) × (1 ≤ below) × (below ≤ n) ⌝ }
     ensures { λ b. ⌜ b ≡ correctsBy n s above below ⌝ }

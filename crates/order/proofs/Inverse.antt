@@ -43,7 +43,7 @@ stands p c (x ∷ xs) l =
     more e s = record { index = suc (s .index); inside = omega (arith, s .inside); place = rw e (s .place ∙ omega arith); there = s .there }
 
 -- an element that is listed once stands at its own place
-pub count-at : (i : ℕ) (xs : List ℕ) → i < length xs → 1 ≤ count (getD xs i 0) xs
+count-at : (i : ℕ) (xs : List ℕ) → i < length xs → 1 ≤ count (getD xs i 0) xs
 count-at i [] l = absurd (not-suc-le-zero l)
 count-at zero (x ∷ xs) l = omega (arith, tally-eq x x refl)
 count-at (suc i) (x ∷ xs) l = omega (arith, count-at i xs (le-of-suc-le-suc l))
@@ -79,7 +79,7 @@ count-tabulate (suc n) f v (suc k) l e = omega (arith, count-tabulate n (λ j. f
 
 module _ (n : ℕ) (xs : List ℕ) (o : IsOrder n xs) where
   -- the place of the number at i is i + 1
-  own-place : (i : ℕ) → i < n → placeOf xs (getD xs i 0) ≡ suc i
+  pub own-place : (i : ℕ) → i < n → placeOf xs (getD xs i 0) ≡ suc i
   unfolding placeOf
   own-place i l =
       let r = order-range n xs o i l in
