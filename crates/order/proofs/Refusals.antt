@@ -99,6 +99,12 @@ module _ (later : List (Bool × Refusal)) where
   pub refused-first : (first : List (Bool × Refusal)) (r : Refusal) → numberOf first ≡ refusalNumber r → numberOf (first ++ later) ≡ refusalNumber r
   refused-first first r e = first-decide first (λ z. not-zero r (sym e ∙ z)) ∙ e
 
+  pub all-held : (first : List (Bool × Refusal)) → numberOf (first ++ later) ≡ 0 → (numberOf first ≡ 0) × (numberOf later ≡ 0)
+  unfolding numberOf
+  all-held [] e = (refl, e)
+  all-held ((true, r) ∷ first) e = all-held first e
+  all-held ((false, r) ∷ first) e = absurd (not-zero r e)
+
   -- the outcome of the first checks, passed on as that of all
   pub outcome-first : (first : List (Bool × Refusal)) {o : Outcome} {r : Refusal} → outcomeNumber o ≡ numberOf first → o ≡ Refused r → outcomeNumber o ≡ numberOf (first ++ later)
   outcome-first first {r = r} e d = ap outcomeNumber d ∙ sym (refused-first first r (sym e ∙ ap outcomeNumber d))

@@ -1,0 +1,12 @@
+pub mod Levels
+pub mod Raise
+pub mod Rows
+pub mod Checks
+pub mod Orders
+pub mod Raising
+pub mod Sensed
+pub mod Sinking
+pub mod Groups
+pub mod Told
+pub mod Row
+pub mod Bench

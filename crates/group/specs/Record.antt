@@ -1,0 +1,51 @@
+-- Document 01, "Cells, ranks, levels": the group record and its rules.
+--
+--   allAtMost m xs      no number is above m
+--   isRow n xs          levels or caps: whole numbers 0 to 4,095, and 0 in the places beyond n
+--   hasRows g           both rows of the record are such; a cap may be below the level of its cell
+--   groupChecks g       the checks of a record: 1, 2
+--   opened n            levels 0, caps 4,095, not written
+--   noGroup             the all-zero record
+--   withLevels g ls, withCaps g cs    the record with other levels, or other caps
+--   programmed g ls     the record with these levels, written
+--   erased g            all levels 0, mark cleared, caps kept
+use Prim.Native.Nat.{ℕ, _-_}
+use mathlib.Core.Bool.{Bool, true, false, _&&_}
+use mathlib.Core.List.{List, [], _∷_, _++_}
+use lib.Dec.{leb}
+use lib.ListN.{drop, replicate}
+use Rattle.order.specs.declared.Refusal.{Refusal}
+use Rattle.order.specs.declared.Refusal.the-variants.{Size, NoGroup}
+use Rattle.order.specs.Refusals.{isSize}
+use Rattle.group.specs.declared.Group.{Group}
+
+unfoldable pub allAtMost : ℕ → List ℕ → Bool
+allAtMost m [] = true
+allAtMost m (x ∷ xs) = leb x m && allAtMost m xs
+
+unfoldable pub isRow : ℕ → List ℕ → Bool
+isRow n xs = allAtMost 4095 xs && allAtMost 0 (drop n xs)
+
+abbrev pub hasRows : Group → Bool
+hasRows g = isRow (g .n) (g .levels) && isRow (g .n) (g .caps)
+
+abbrev pub groupChecks : Group → List (Bool × Refusal)
+groupChecks g = (isSize (g .n), Size) ∷ (hasRows g, NoGroup) ∷ []
+
+abbrev pub opened : ℕ → Group
+opened n = record { n = n; levels = replicate 12 0; caps = replicate n 4095 ++ replicate (12 - n) 0; written = false }
+
+abbrev pub noGroup : Group
+noGroup = record { n = 0; levels = replicate 12 0; caps = replicate 12 0; written = false }
+
+abbrev pub withLevels : Group → List ℕ → Group
+withLevels g ls = record { n = g .n; levels = ls; caps = g .caps; written = g .written }
+
+abbrev pub withCaps : Group → List ℕ → Group
+withCaps g cs = record { n = g .n; levels = g .levels; caps = cs; written = g .written }
+
+abbrev pub programmed : Group → List ℕ → Group
+programmed g ls = record { n = g .n; levels = ls; caps = g .caps; written = true }
+
+abbrev pub erased : Group → Group
+erased g = record { n = g .n; levels = replicate 12 0; caps = g .caps; written = false }
