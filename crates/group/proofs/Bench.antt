@@ -2,7 +2,7 @@
 -- Assumes nothing.
 use Prim.Native.Nat.{ℕ, _-_}
 use mathlib.Core.Path.{_≡_, refl}
-use mathlib.Core.Bool.{true}
+use mathlib.Core.Bool.{Bool, true, false}
 use mathlib.Core.List.{List, [], _∷_, _++_, map}
 use lib.ListN.{length, replicate}
 use Rattle.order.specs.Refusals.{Told, numberOf, answer}
@@ -18,20 +18,20 @@ use Rattle.group.specs.Calls.{Program, pushArray, raised, fits, pushed, 
 row : List ℕ → List ℕ
 row xs = xs ++ replicate (12 - length xs) 0
 
-groupAt : List ℕ → List ℕ → Group
-groupAt levels caps = record { n = length levels; levels = row levels; caps = row caps; written = true }
+groupAt : Bool → List ℕ → List ℕ → Group
+groupAt written levels caps = record { n = length levels; levels = row levels; caps = row caps; written = written }
 
 push : ℕ → ℕ → Push
 push k level = record { cell = record { 0 = k }; level = level }
 
 done : List ℕ → List ℕ → ℕ → List Push → Told Program
 done levels caps pulses ps =
-    record { number = 0; value = record { group = groupAt levels caps; pulses = pulses; count = length ps; pushes = pushArray ps } }
+    record { number = 0; value = record { group = groupAt true levels caps; pulses = pulses; count = length ps; pushes = pushArray ps } }
 
 worn : List ℕ → List ℕ → Told Program
-worn levels caps = record { number = 8; value = unpushed (groupAt levels caps) }
+worn levels caps = record { number = 8; value = unpushed (groupAt false levels caps) }
 
--- levels and caps, a target, and what the answer says
+-- levels and caps of a group that is not written, a target, and what the answer says
 record Case : Type 0 where
   levels : List ℕ
   caps : List ℕ
@@ -57,6 +57,12 @@ bench =
     }
     ∷ record {
       levels = 0 ∷ 0 ∷ 0 ∷ [];
+      caps = 4095 ∷ 4095 ∷ 4095 ∷ [];
+      target = 3 ∷ 2 ∷ 1 ∷ [];
+      answer = done (0 ∷ 1 ∷ 2 ∷ []) (4095 ∷ 4095 ∷ 4095 ∷ []) 3 (push 2 1 ∷ push 3 2 ∷ []);
+    }
+    ∷ record {
+      levels = 0 ∷ 0 ∷ 0 ∷ [];
       caps = 4095 ∷ 4095 ∷ 2 ∷ [];
       target = 3 ∷ 2 ∷ 1 ∷ [];
       answer = done (0 ∷ 1 ∷ 2 ∷ []) (4095 ∷ 4095 ∷ 2 ∷ []) 3 (push 2 1 ∷ push 3 2 ∷ []);
@@ -70,7 +76,7 @@ bench =
     ∷ []
 
 answers : Case → Told Program
-answers c = writeOf (groupAt (c .levels) (c .caps)) (orderRecord (c .target))
+answers c = writeOf (groupAt false (c .levels) (c .caps)) (orderRecord (c .target))
 
 expected : Case → Told Program
 expected c = c .answer

@@ -2,7 +2,7 @@
 --
 --   level ls c       the level, or the cap, of cell c
 --   put ls c v       the list with that of cell c set to v
---   AtMost xs ys     no number of the first list is above its partner in the second; the lists are equally long
+--   AtMost xs ys     no number of the first list is above its partner in the second; the lists are equally long. For the laws, and for demand 3
 --   atMost xs ys     the test of it
 --   rises xs ys      the sum of the rises from the first levels to the second
 --   leaked c d ls    the level of cell c falls by d, but not below 0

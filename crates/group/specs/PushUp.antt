@@ -1,15 +1,19 @@
 -- Document 01, "The plain machine": minimal push-up (SD 000) and its push program.
--- A target is a list of ranks, highest first, and a rank is a list of cells. An order has one cell a rank, and the gap between ranks is 1.
+-- A target lists the cells of each rank, highest rank first. Here an order is the target: one cell a rank, and the gap between ranks is 1.
 --
---   singles xs          the ranks of an order
---   top r ls            the highest level of a rank
---   floorOver g rs ls   the least level of a cell that stands just above these ranks: the gap above the highest level of the first one
+--   singles xs          the target that is an order: the cells of each rank, one a rank
+--   top r ls            the highest level of the cells r of a rank
+--   floorOver g rs ls   the least level of a cell that stands just above these ranks: the gap above the highest level of the first one; 0 where
+--                       there are none
+--   Reach f r ls        every cell of r is at level f or above it. For the laws
 --   Shows g rs ls       the target shows: every cell of a rank is at least the gap above every cell of the next. With gap 1 and
---                       one cell a rank: the levels fall strictly along the order
---   lift old f r new    each cell of the rank takes the larger of its old level and f
+--                       one cell a rank: the levels fall strictly along the order. For the laws, and for demand 3
+--   lift old f r new    each cell of r takes the larger of its old level and f
 --   raise g rs ls       minimal push-up: the lowest rank keeps its levels; going up, each cell takes the larger of its old level and the
---                       gap above the highest new level of the rank just below it
+--                       gap above the highest new level of the rank just below it. For an order: the lowest cell keeps its level; each next cell
+--                       takes the larger of its old level and one more than the new level of the cell just below it
 --   pushOf c old new    the push of a cell that really rises, with its new level; none of one that keeps its level
+--   rankPushes old f r  the pushes of the cells r, which rise to f
 --   pushes g rs ls      the push program, from low to high
 use Prim.Native.Nat.{ℕ, _+_, _≤_, max}
 use mathlib.Core.Bool.{cond}
@@ -30,7 +34,6 @@ unfoldable pub floorOver : ℕ → List (List ℕ) → List ℕ → ℕ
 floorOver g [] ls = 0
 floorOver g (r ∷ rs) ls = top r ls + g
 
--- every cell of the rank is at the floor f or above it
 unfoldable pub Reach : ℕ → List ℕ → List ℕ → Type 0
 Reach f [] ls = Unit {0}
 Reach f (c ∷ cs) ls = (f ≤ level ls c) × Reach f cs ls
@@ -50,7 +53,6 @@ raise g (r ∷ rs) ls = let new = raise g rs ls in lift ls (floorOver g rs new) 
 unfoldable pub pushOf : ℕ → ℕ → ℕ → List Push
 pushOf c old new = cond (ltb old new) (record { cell = record { 0 = c }; level = new } ∷ []) []
 
--- the pushes of a rank whose cells rise to f
 unfoldable pub rankPushes : List ℕ → ℕ → List ℕ → List Push
 rankPushes old f [] = []
 rankPushes old f (c ∷ cs) = pushOf c (level old c) (max (level old c) f) ++ rankPushes old f cs

@@ -1,4 +1,4 @@
--- Document 01, "Cells, ranks, levels": the group record and its rules.
+-- Document 01, "Cells, ranks, levels": the group record and its rules. That there are twelve levels and twelve caps is in its type.
 --
 --   allAtMost m xs      no number is above m
 --   isRow n xs          levels or caps: whole numbers 0 to 4,095, and 0 in the places beyond n
