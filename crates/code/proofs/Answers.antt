@@ -19,7 +19,7 @@ use Rattle.code.specs.declared.WordsAnswer.the-variants as words
 use Rattle.code.specs.declared.TestAnswer.the-variants as test
 use Rattle.code.specs.Words.{modulus, weight, K, wordAt}
 use Rattle.code.specs.Decoding.{isCodeword}
-use Rattle.code.specs.Calls.{codewordOf}
+use Rattle.code.specs.Calls.{wordOf, codewordOf}
 use Rattle.code.specs.Steps.{held}
 use Rattle.code.proofs.Laws.{word-of, word-is-word}
 use Rattle.code.proofs.Scanning.{cut}
@@ -28,7 +28,7 @@ use Rattle.code.proofs.Codewords.{held-passes, held-order, cells-of, sy
 -- ---- the codeword of a symbol is the order of its word
 
 pub codeword-answer : (n s : ℕ) → 3 ≤ n → n ≤ 12 → s < K n → orderOfCoordinates (held (wordAt n s)) ≡ codewordOf n s
-unfolding orderOfCoordinates codewordOf
+unfolding orderOfCoordinates codewordOf wordOf
 codeword-answer n s low high h =
     let t = word-of n (wordAt n s) (word-is-word n (omega arith) s h) in
     let cells : length (wordAt n s) + 1 ≡ n = omega arith in

@@ -9,7 +9,7 @@ use Rattle.order.specs.Order.{cellNumbers, orderRecord, noOrder}
 use Rattle.coordinates.specs.Coordinates.{coordinateOf, coordinatesTo, orderFrom}
 use Rattle.code.specs.Words.{joined, select, vectorsFrom, weight, leaves, vectors, words, K, wordAt}
 use Rattle.code.specs.Decoding.{isCodeword}
-use Rattle.code.specs.Calls.{wordsOf, codewordOf, isCodewordOf}
+use Rattle.code.specs.Calls.{wordsOf, wordOf, codewordOf, isCodewordOf}
 
 pub words-four : words 4 ≡ (0 ∷ 0 ∷ 0 ∷ []) ∷ (0 ∷ 2 ∷ 1 ∷ []) ∷ (1 ∷ 0 ∷ 2 ∷ []) ∷ (1 ∷ 2 ∷ 3 ∷ []) ∷ []
 unfolding words vectors vectorsFrom joined select leaves weight
@@ -22,7 +22,7 @@ pub codewords-four :
     × (codewordOf 4 2 ≡ record { number = 0; value = orderRecord (2 ∷ 4 ∷ 1 ∷ 3 ∷ []) })
     × (codewordOf 4 3 ≡ record { number = 0; value = orderRecord (4 ∷ 3 ∷ 2 ∷ 1 ∷ []) })
     × (codewordOf 4 4 ≡ record { number = 5; value = noOrder })
-unfolding wordsOf codewordOf refusals.answer refusals.numberOf K wordAt words vectors vectorsFrom joined select leaves weight orderFrom orderRecord
+unfolding wordsOf codewordOf wordOf refusals.answer refusals.numberOf K wordAt words vectors vectorsFrom joined select leaves weight orderFrom orderRecord
 codewords-four = (refl, refl, refl, refl, refl, refl)
 
 pub tests :

@@ -1,6 +1,7 @@
 -- What the calls of the one-error code answer.
 --
 --   toldWords, toldTest        what an answer says: its number, and K(n), or yes or no
+--   wordOf n symbol            the codeword of a number, as an order
 --   Reading                    a symbol and a verdict; `noReading` beside a refusal: symbol 0, no verdict
 --   toldDecode                 what an answer says: its number, and the reading
 --   verdictAt k                clean for place 0, else put right at place k
@@ -42,11 +43,14 @@ wordsOf n = answer ((isSize n, Size) ∷ []) (K n) 0
 
 -- ---- the codeword of a symbol, as an order
 
+unfoldable pub wordOf : ℕ → ℕ → List ℕ
+wordOf n symbol = orderFrom (coordinateAt (wordAt n symbol)) n
+
 abbrev pub codewordChecks : ℕ → ℕ → List (Bool × Refusal)
 codewordChecks n symbol = (isSize n, Size) ∷ (ltb symbol (K n), NoSymbol) ∷ []
 
 unfoldable pub codewordOf : ℕ → ℕ → Told Order
-codewordOf n symbol = answer (codewordChecks n symbol) (orderRecord (orderFrom (coordinateAt (wordAt n symbol)) n)) noOrder
+codewordOf n symbol = answer (codewordChecks n symbol) (orderRecord (wordOf n symbol)) noOrder
 
 -- ---- the test
 

@@ -1,0 +1,9 @@
+pub mod Answers
+pub mod Holds
+pub mod Told
+pub mod Row
+pub mod Bench
+pub mod Climb
+pub mod CostRise
+pub mod WriteRise
+pub mod BenchRise

@@ -1,0 +1,29 @@
+-- What an answer says in the refusal table's terms determines the answer.
+-- Assumes nothing.
+use mathlib.Core.Path.{_≡_, sym, ap}
+use mathlib.Core.Bool.{Bool}
+use mathlib.Core.Option.{Option, some}
+use Rattle.order.specs.Refusals.{Told}
+use Rattle.order.proofs.Refusals.{refusal-by-number, not-zero}
+use Rattle.code.specs.declared.Verdict.{Verdict}
+use Rattle.code.specs.Calls.{Reading}
+use Rattle.engine.specs.declared.ReadAnswer.{ReadAnswer}
+use Rattle.engine.specs.declared.ReadAnswer.the-variants as read
+use Rattle.engine.specs.declared.AlikeAnswer.{AlikeAnswer}
+use Rattle.engine.specs.declared.AlikeAnswer.the-variants as alike
+use Rattle.engine.specs.Calls.{toldRead, toldAlike}
+
+pub told-read : (a b : ReadAnswer) → toldRead a ≡ toldRead b → a ≡ b
+told-read (read.Refused a) (read.Refused b) e = ap read.Refused (refusal-by-number a b (ap (λ (t : Told Reading). t .number) e))
+told-read (read.Refused a) (read.Read s v) e = absurd (not-zero a (ap (λ (t : Told Reading). t .number) e))
+told-read (read.Read s v) (read.Refused b) e = absurd (not-zero b (sym (ap (λ (t : Told Reading). t .number) e)))
+told-read (read.Read s v) (read.Read r w) e =
+    let symbol : s ≡ r = ap (λ (t : Told Reading). t .value .symbol) e in
+    let verdict : _≡_ {A = Option Verdict} (some v) (some w) = ap (λ (t : Told Reading). t .value .verdict) e in
+    cc
+
+pub told-alike : (a b : AlikeAnswer) → toldAlike a ≡ toldAlike b → a ≡ b
+told-alike (alike.Refused a) (alike.Refused b) e = ap alike.Refused (refusal-by-number a b (ap (λ (t : Told Bool). t .number) e))
+told-alike (alike.Refused a) (alike.Alike k) e = absurd (not-zero a (ap (λ (t : Told Bool). t .number) e))
+told-alike (alike.Alike k) (alike.Refused b) e = absurd (not-zero b (sym (ap (λ (t : Told Bool). t .number) e)))
+told-alike (alike.Alike j) (alike.Alike k) e = ap alike.Alike (ap (λ (t : Told Bool). t .value) e)
