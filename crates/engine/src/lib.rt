@@ -5,15 +5,12 @@
 use code::DecodeAnswer;
 use code::Verdict;
 use group::Group;
-use group::Push;
 use group::Written;
-use order::Cell;
 use order::Outcome;
 use order::Refusal;
 ghost use mathlib.Core.Path.{_≡_};
 ghost use mathlib.Core.Bool.{false};
-ghost use mathlib.Core.List.{[]};
-ghost use Rattle.group.specs.Calls.{toldWritten, pushArray};
+ghost use Rattle.group.specs.Calls.{toldWritten};
 ghost use Rattle.engine.specs.Calls.{toldRead, readOf, storeOf, toldAlike, alikeOf};
 
 pub enum ReadAnswer {
@@ -52,31 +49,15 @@ pub fn store(g: Group, symbol: u32) -> Written
 {
     let checked = group::check(g);
     let Outcome::Done = checked else {
-        return refused_store(checked, g);
+        return group::unwritten(checked, g);
     };
     let word = code::codeword(g.n, symbol);
     let found = word.outcome;
     let Outcome::Done = found else {
-        return refused_store(found, g);
+        return group::unwritten(found, g);
     };
     let order = word.order;
     group::write(g, order)
-}
-
-// A refused store: the record given, no pulses and no pushes.
-fn refused_store(outcome: Outcome, g: Group) -> Written
-    ensures { λ r. ⌜ r ≡ record { outcome = outcome; group = g; pulses = 0; count = 0; pushes = pushArray [] } ⌝ }
-{
-    Written {
-        outcome,
-        group: g,
-        pulses: 0,
-        count: 0,
-        pushes: [Push {
-            cell: Cell(0),
-            level: 0,
-        }; 11],
-    }
 }
 
 // Whether two groups hold the same symbol in the same number of cells. The first group's refusals come before the second's.

@@ -24,13 +24,13 @@ enum-told c = search needs
 enum-told-2 : tie.Need-enum-told-2
 enum-told-2 c = search needs
 
-refused-store-requires : tie.Need-refused-store-requires
-refused-store-requires c κs = search needs
+unwritten-requires : tie.Need-unwritten-requires
+unwritten-requires c κs = search needs
 
 returns : tie.Need-returns
 returns c =
     let a = c .before .before .before in
-    rw (c .refused-store .ensures) (store-refused _ _ (a .check .ensures) (c .before .enum-told2 .given .1))
+    c .unwritten .ensures ∙ store-refused _ _ (a .check .ensures) (c .before .enum-told2 .given .1)
 
 -- the record has passed
 passed : (c : tie.After-enum-told) → numberOf (groupChecks (c .before .before .before .args .g)) ≡ 0
@@ -45,15 +45,15 @@ enum-told-3 c = search needs
 enum-told-4 : tie.Need-enum-told-4
 enum-told-4 c = search needs
 
-refused-store-requires-2 : tie.Need-refused-store-requires-2
-refused-store-requires-2 c κs = search needs
+unwritten-requires-2 : tie.Need-unwritten-requires-2
+unwritten-requires-2 c κs = search needs
 
 returns-2 : tie.Need-returns-2
 returns-2 c =
     let w = c .before .before .before in
     let a = w .before .before .before .before .args in
-    rw (c .refused-store2 .ensures)
-    (store-no-symbol (a .g) (a .symbol) (passed (w .before)) (w .codeword .result) (w .codeword .ensures) (c .before .enum-told4 .given .1))
+    c .unwritten2 .ensures
+    ∙ store-no-symbol (a .g) (a .symbol) (passed (w .before)) (w .codeword .result) (w .codeword .ensures) (c .before .enum-told4 .given .1)
 
 -- the codeword that was found is that of the symbol
 word-of : (c : tie.After-codeword) → c .codeword .result .outcome ≡ Done →
@@ -84,12 +84,12 @@ store-spec =
     check-requires
     enum-told
     enum-told-2
-    refused-store-requires
+    unwritten-requires
     returns
     codeword-requires
     enum-told-3
     enum-told-4
-    refused-store-requires-2
+    unwritten-requires-2
     returns-2
     write-requires
     returns-3)
