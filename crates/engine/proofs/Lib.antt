@@ -7,3 +7,8 @@ pub mod Climb
 pub mod CostRise
 pub mod WriteRise
 pub mod BenchRise
+pub mod Machine
+pub mod Demand3
+pub mod Valid
+pub mod Refuted
+pub mod Scrubs

@@ -6,9 +6,13 @@ use mathlib.Core.Bool.{true}
 use Rattle.order.specs.Refusals.{checkRow, inRow}
 use Rattle.group.specs.declared.Group.{Group}
 use Rattle.engine.specs.Calls.{readChecks, storeChecks}
+use Rattle.engine.specs.Machine.{scrubChecks}
 
 pub read-in-row : (g : Group) → inRow (readChecks g) checkRow ≡ true
 read-in-row g = refl
 
 pub store-in-row : (g : Group) (s : ℕ) → inRow (storeChecks g s) checkRow ≡ true
 store-in-row g s = refl
+
+pub scrub-in-row : (g : Group) → inRow (scrubChecks g) checkRow ≡ true
+scrub-in-row g = refl

@@ -1,2 +1,4 @@
 pub mod Calls
 pub mod Rise
+pub mod Machine
+pub mod Rivals

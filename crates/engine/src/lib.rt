@@ -1,17 +1,23 @@
-// The calls that join the one-error code and the group (document 01, "The plain machine", "Calls outside the list"): read, store and alike.
-// Every public function takes any record and answers it by one equation with a definition of specs/. Proved besides: after an accepted
-// store of a symbol a read answers it, clean; with two neighbours of its order exchanged it still does, put right at that place; a read
-// is refused as lost exactly when no codeword is within distance 1 (proofs/Holds).
+// The calls that join the one-error code and the group (document 01, "The plain machine", "Calls outside the list"): read, store, scrub and
+// alike, and `apply`, one call of the machine of demand 3. Every public function takes any record and answers it by one equation with a
+// definition of specs/. Proved besides: what is stored is read (proofs/Holds), what is scrubbed is read (proofs/Scrubs), the cost is the rise
+// of the top level (proofs/CostRise), and demand 3 of every list of calls (specs/Rivals, proofs/Demand3).
 use code::DecodeAnswer;
 use code::Verdict;
+use group::Changed;
 use group::Group;
+use group::Push;
 use group::Written;
+use order::Cell;
+use order::Order;
 use order::Outcome;
 use order::Refusal;
 ghost use mathlib.Core.Path.{_≡_};
 ghost use mathlib.Core.Bool.{false};
-ghost use Rattle.group.specs.Calls.{toldWritten};
+ghost use Rattle.order.specs.Refusals.{outcomeNumber};
+ghost use Rattle.group.specs.Calls.{toldChanged, toldWritten};
 ghost use Rattle.engine.specs.Calls.{toldRead, readOf, storeOf, toldAlike, alikeOf};
+ghost use Rattle.engine.specs.Machine.{toldApplied, quiet, afterProgram, afterChange, afterRead, scrubOf, applyOf};
 
 pub enum ReadAnswer {
     Refused(Refusal),
@@ -21,6 +27,39 @@ pub enum ReadAnswer {
 pub enum AlikeAnswer {
     Refused(Refusal),
     Alike(bool),
+}
+
+// One of the seven calls of demand 3, with its numbers. The order of a write stands beside it in the call.
+pub enum Kind {
+    Write,
+    Store(u32),
+    Scrub,
+    Leak(Cell, u32),
+    Wear(Cell, u32),
+    Erase,
+    Read,
+}
+
+pub struct Call {
+    pub kind: Kind,
+    pub target: Order,
+}
+
+// The verdict of a reading, where there was one.
+pub enum Judged {
+    Nothing,
+    By(Verdict),
+}
+
+// The answer of scrub and of apply: the verdict of the reading stands inside it.
+pub struct Applied {
+    pub outcome: Outcome,
+    pub group: Group,
+    pub symbol: u32,
+    pub verdict: Judged,
+    pub pulses: u32,
+    pub count: usize,
+    pub pushes: [Push; 11],
 }
 
 // The symbol that a group holds, and whether its order was put right.
@@ -96,5 +135,118 @@ fn refused(answer: ReadAnswer) -> AlikeAnswer
             symbol: _,
             verdict: _,
         } => AlikeAnswer::Alike(false),
+    }
+}
+
+// A group read, and the codeword found written again. The answer carries the verdict of the reading, with the symbol and the pulses.
+pub fn scrub(g: Group) -> Applied
+    ensures { λ r. ⌜ toldApplied r ≡ scrubOf g ⌝ }
+{
+    let answer = read(g);
+    let ReadAnswer::Read { symbol, verdict } = answer else {
+        return from_read(g, answer);
+    };
+    let rewritten = store(g, symbol);
+    let outcome = rewritten.outcome;
+    let Outcome::Done = outcome else {
+        return unchanged(outcome, g);
+    };
+    let group = rewritten.group;
+    let pushes = rewritten.pushes;
+    Applied {
+        outcome: Outcome::Done,
+        group,
+        symbol,
+        verdict: Judged::By(verdict),
+        pulses: rewritten.pulses,
+        count: rewritten.count,
+        pushes,
+    }
+}
+
+// One call of the plain machine.
+pub fn apply(g: Group, call: Call) -> Applied
+    ensures { λ r. ⌜ toldApplied r ≡ applyOf g call ⌝ }
+{
+    let target = call.target;
+    let kind = call.kind;
+    match kind {
+        Kind::Write => from_written(group::write(g, target), 0),
+        Kind::Store(symbol) => from_written(store(g, symbol), symbol),
+        Kind::Scrub => scrub(g),
+        Kind::Leak(cell, d) => from_changed(group::leak(g, cell, d)),
+        Kind::Wear(cell, cap) => from_changed(group::wear(g, cell, cap)),
+        Kind::Erase => from_changed(group::erase(g)),
+        Kind::Read => from_read(g, read(g)),
+    }
+}
+
+// An answer that tells nothing but its outcome and the group.
+fn unchanged(outcome: Outcome, g: Group) -> Applied
+    ensures { λ r. ⌜ toldApplied r ≡ record { number = outcomeNumber outcome; value = quiet g } ⌝ }
+{
+    Applied {
+        outcome,
+        group: g,
+        symbol: 0,
+        verdict: Judged::Nothing,
+        pulses: 0,
+        count: 0,
+        pushes: [Push {
+            cell: Cell(0),
+            level: 0,
+        }; 11],
+    }
+}
+
+// The answer of leak, wear or erase.
+fn from_changed(answer: Changed) -> Applied
+    ensures { λ r. ⌜ toldApplied r ≡ afterChange (toldChanged answer) ⌝ }
+{
+    let outcome = answer.outcome;
+    let group = answer.group;
+    unchanged(outcome, group)
+}
+
+// The answer of a write, or of a store of a symbol.
+fn from_written(answer: Written, symbol: u32) -> Applied
+    ensures { λ r. ⌜ toldApplied r ≡ afterProgram (toldWritten answer) symbol ⌝ }
+{
+    let outcome = answer.outcome;
+    let group = answer.group;
+    let pushes = answer.pushes;
+    let mut told: u32 = 0;
+    if let Outcome::Done = outcome {
+        told = symbol;
+    }
+    Applied {
+        outcome,
+        group,
+        symbol: told,
+        verdict: Judged::Nothing,
+        pulses: answer.pulses,
+        count: answer.count,
+        pushes,
+    }
+}
+
+// The answer of a read of a group, which stays as it is.
+fn from_read(g: Group, answer: ReadAnswer) -> Applied
+    ensures { λ r. ⌜ toldApplied r ≡ afterRead g (toldRead answer) ⌝ }
+{
+    match answer {
+        ReadAnswer::Refused(refusal) => unchanged(Outcome::Refused(refusal), g),
+        ReadAnswer::Read { symbol, verdict } => Applied {
+            outcome: Outcome::Done,
+            group: g,
+            symbol,
+            verdict: Judged::By(verdict),
+            pulses: 0,
+            count: 0,
+            pushes: [Push {
+                cell: Cell(0),
+                level: 0,
+            }; 11],
+        },
     }
 }

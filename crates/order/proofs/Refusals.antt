@@ -40,7 +40,7 @@ pub outcome-by-number : (a b : Outcome) → outcomeNumber a ≡ outcomeNumber b 
 outcome-by-number a b e = sym (outcome-at a) ∙ ap (λ (k : ℕ). getD outcomes k Done) e ∙ outcome-at b
 
 -- no refusal has the number 0
-refused-zeros : {A : Type 0} (r : Refusal) (result zeros : A) → ifDone (refusalNumber r) result zeros ≡ zeros
+pub refused-zeros : {A : Type 0} (r : Refusal) (result zeros : A) → ifDone (refusalNumber r) result zeros ≡ zeros
 refused-zeros Size result zeros = refl
 refused-zeros NoGroup result zeros = refl
 refused-zeros NoCell result zeros = refl

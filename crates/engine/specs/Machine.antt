@@ -1,0 +1,159 @@
+-- Document 01, "The plain machine": scrub, and the seven calls of demand 3 as one machine.
+--
+--   Step                what an answer carries: the group after the call, the symbol, the verdict if there is one, the pulses and the pushes
+--   judged v            the verdict that an answer holds, if any
+--   toldApplied a       what an answer says: its number, and what it carries
+--   quiet g             an answer with the group and nothing else: symbol 0, no verdict, no pulses, no pushes
+--   programmedStep      what an answer to a write, a store or a scrub carries
+--   wordFound g         the codeword that a reading finds (where the order is lost, the order as it was read; nothing is written then)
+--   scrubChecks g       the checks of a scrub: 1, 2, 6, 7, 8
+--   scrubOf g           the answer to `scrub`: read, then write the codeword found
+--   writes k            the calls that raise cells: write, store and scrub
+--   target g c          the order that such a call is to show; another call has the empty target
+--   checks g c          the checks of a call, in the order in which they run
+--   earlierChecks g c   those of a write, a store or a scrub before 8
+--   applyOf g c         the answer to `apply`: one call of the plain machine
+use Prim.Native.Nat.{ℕ}
+use mathlib.Core.Bool.{Bool, true, false}
+use mathlib.Core.List.{List, [], _∷_, _++_}
+use mathlib.Core.Option.{Option, none, some}
+use lib.Dec.{ltb}
+use Rattle.order.specs.declared.Order.{Order}
+use Rattle.order.specs.declared.Refusal.{Refusal}
+use Rattle.order.specs.declared.Refusal.the-variants.{NoOrder, NoSymbol, Worn}
+use Rattle.order.specs.Refusals.{outcomeNumber, ifDone, Told, answer}
+use Rattle.order.specs.Order.{listed, isOrderOf}
+use Rattle.distance.specs.Distance.{exchange}
+use Rattle.code.specs.declared.Verdict.{Verdict}
+use Rattle.code.specs.Words.{K}
+use Rattle.code.specs.Calls.{wordOf, Reading}
+use Rattle.group.specs.declared.Group.{Group}
+use Rattle.group.specs.declared.Push.{Push}
+use Rattle.group.specs.Record.{groupChecks}
+use Rattle.group.specs.Calls.{Program, cellChecks, wearChecks, writeChecks, pushArray, fits, pushed, leakOf, wearOf, eraseOf, writeOf}
+use Rattle.engine.specs.declared.Kind.{Kind}
+use Rattle.engine.specs.declared.Kind.the-variants.{Write, Store, Scrub, Leak, Wear, Erase, Read}
+use Rattle.engine.specs.declared.Call.{Call}
+use Rattle.engine.specs.declared.Judged.{Judged}
+use Rattle.engine.specs.declared.Judged.the-variants.{Nothing, By}
+use Rattle.engine.specs.declared.Applied.{Applied}
+use Rattle.engine.specs.Calls.{sensedOrder, placeRead, readChecks, readingOf, readOf, storeChecks, storeOf}
+
+-- ---- answers
+
+pub record Step : Type 0 where
+  pub group : Group
+  pub symbol : ℕ
+  pub verdict : Option Verdict
+  pub pulses : ℕ
+  pub count : ℕ
+  pub pushes : List Push
+
+abbrev pub judged : Judged → Option Verdict
+judged Nothing = none
+judged (By v) = some v
+
+abbrev pub toldApplied : Applied → Told Step
+toldApplied a =
+    record {
+      number = outcomeNumber (a .outcome);
+      value =
+          record {
+            group = a .group;
+            symbol = a .symbol;
+            verdict = judged (a .verdict);
+            pulses = a .pulses;
+            count = a .count;
+            pushes = a .pushes;
+          };
+    }
+
+abbrev pub quiet : Group → Step
+quiet g = record { group = g; symbol = 0; verdict = none; pulses = 0; count = 0; pushes = pushArray [] }
+
+abbrev pub programmedStep : Program → ℕ → Option Verdict → Step
+programmedStep p s v = record { group = p .group; symbol = s; verdict = v; pulses = p .pulses; count = p .count; pushes = p .pushes }
+
+-- ---- scrub
+
+abbrev pub wordFound : Group → List ℕ
+wordFound g = exchange (placeRead g) (sensedOrder g)
+
+abbrev pub scrubChecks : Group → List (Bool × Refusal)
+scrubChecks g = readChecks g ++ (fits g (wordFound g), Worn) ∷ []
+
+unfoldable pub scrubOf : Group → Told Step
+scrubOf g = answer (scrubChecks g) (programmedStep (pushed g (wordFound g)) (readingOf g .symbol) (readingOf g .verdict)) (quiet g)
+
+-- ---- the seven calls
+
+abbrev pub writes : Kind → Bool
+writes Write = true
+writes (Store s) = true
+writes Scrub = true
+writes (Leak c d) = false
+writes (Wear c cap) = false
+writes Erase = false
+writes Read = false
+
+abbrev pub targetBy : Group → Order → Kind → List ℕ
+targetBy g o Write = listed o
+targetBy g o (Store s) = wordOf (g .n) s
+targetBy g o Scrub = wordFound g
+targetBy g o (Leak c d) = []
+targetBy g o (Wear c cap) = []
+targetBy g o Erase = []
+targetBy g o Read = []
+
+abbrev pub target : Group → Call → List ℕ
+target g c = targetBy g (c .target) (c .kind)
+
+abbrev pub checksBy : Group → Order → Kind → List (Bool × Refusal)
+checksBy g o Write = writeChecks g o
+checksBy g o (Store s) = storeChecks g s
+checksBy g o Scrub = scrubChecks g
+checksBy g o (Leak c d) = cellChecks g c
+checksBy g o (Wear c cap) = wearChecks g c cap
+checksBy g o Erase = groupChecks g
+checksBy g o Read = readChecks g
+
+abbrev pub checks : Group → Call → List (Bool × Refusal)
+checks g c = checksBy g (c .target) (c .kind)
+
+abbrev pub earlierBy : Group → Order → Kind → List (Bool × Refusal)
+earlierBy g o Write = groupChecks g ++ (isOrderOf (g .n) o, NoOrder) ∷ []
+earlierBy g o (Store s) = groupChecks g ++ (ltb s (K (g .n)), NoSymbol) ∷ []
+earlierBy g o Scrub = readChecks g
+earlierBy g o (Leak c d) = []
+earlierBy g o (Wear c cap) = []
+earlierBy g o Erase = []
+earlierBy g o Read = []
+
+abbrev pub earlierChecks : Group → Call → List (Bool × Refusal)
+earlierChecks g c = earlierBy g (c .target) (c .kind)
+
+-- an accepted write carries symbol 0, an accepted store the symbol stored; a refused one 0
+abbrev pub afterProgram : Told Program → ℕ → Told Step
+afterProgram t s = record { number = t .number; value = programmedStep (t .value) (ifDone (t .number) s 0) none }
+
+abbrev pub afterChange : Told Group → Told Step
+afterChange t = record { number = t .number; value = quiet (t .value) }
+
+abbrev pub afterRead : Group → Told Reading → Told Step
+afterRead g t =
+    record {
+      number = t .number;
+      value = record { group = g; symbol = t .value .symbol; verdict = t .value .verdict; pulses = 0; count = 0; pushes = pushArray [] };
+    }
+
+abbrev pub applyBy : Group → Order → Kind → Told Step
+applyBy g o Write = afterProgram (writeOf g o) 0
+applyBy g o (Store s) = afterProgram (storeOf g s) s
+applyBy g o Scrub = scrubOf g
+applyBy g o (Leak c d) = afterChange (leakOf g c d)
+applyBy g o (Wear c cap) = afterChange (wearOf g c cap)
+applyBy g o Erase = afterChange (eraseOf g)
+applyBy g o Read = afterRead g (readOf g)
+
+unfoldable pub applyOf : Group → Call → Told Step
+applyOf g c = applyBy g (c .target) (c .kind)
