@@ -11,7 +11,7 @@ pub mod Scanning
 pub mod Summing
 pub mod Codewords
 pub mod Answers
-pub mod BenchWords
+pub mod Bench
 pub mod First
 pub mod Weight
 pub mod Decoding
@@ -22,4 +22,3 @@ pub mod Row
 pub mod Reading
 pub mod Found
 pub mod Symbols
-pub mod BenchDecode

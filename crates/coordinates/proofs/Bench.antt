@@ -1,4 +1,4 @@
--- The bench orders of document 01 that speak of coordinates, and a refused record each way.
+-- An order and its coordinates as records, and a refused record each way.
 -- Assumes nothing.
 use mathlib.Core.Path.{_≡_, refl}
 use mathlib.Core.List.{[], _∷_}
@@ -8,12 +8,7 @@ use Rattle.order.specs.Order.{cellNumbers, orderRecord, noOrder}
 use Rattle.coordinates.specs.Coordinates.{coordinateOf, coordinatesTo, orderFrom, inRange}
 use Rattle.coordinates.specs.Calls.{coordinatesOf, orderByCoordinates, noCoordinates, coordinatesOfOrder, orderOfCoordinates}
 
--- the coordinates of cases 3 and 7
-cases : (coordinatesTo 3 (3 ∷ 4 ∷ 1 ∷ 2 ∷ []) ≡ 0 ∷ 2 ∷ 2 ∷ []) × (coordinatesTo 3 (3 ∷ 2 ∷ 4 ∷ 1 ∷ []) ≡ 1 ∷ 2 ∷ 1 ∷ [])
-unfolding coordinatesTo coordinateOf
-cases = (refl, refl)
-
--- case 3 as records, a cell doubled, coordinate 2 above 2, and a coordinate past the length
+-- [3,4,1,2] both ways, a cell doubled, coordinate 2 above 2, and a coordinate past the length
 answers :
     (coordinatesOfOrder (orderRecord (3 ∷ 4 ∷ 1 ∷ 2 ∷ [])) ≡ record { number = 0; value = record { len = 3; values = 0 ∷ 2 ∷ 2 ∷ 0 ∷ 0 ∷ 0 ∷ 0 ∷ 0 ∷ 0 ∷ 0 ∷ 0 ∷ [] } })
     × (orderOfCoordinates (record { len = 3; values = 0 ∷ 2 ∷ 2 ∷ 0 ∷ 0 ∷ 0 ∷ 0 ∷ 0 ∷ 0 ∷ 0 ∷ 0 ∷ [] }) ≡ record { number = 0; value = orderRecord (3 ∷ 4 ∷ 1 ∷ 2 ∷ []) })

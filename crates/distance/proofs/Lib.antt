@@ -9,5 +9,4 @@ pub mod Step
 pub mod Pair
 pub mod Theorems
 pub mod Told
-pub mod Bench
 pub mod OneCoordinate

@@ -6,9 +6,9 @@ pub mod Bench
 pub mod Climb
 pub mod CostRise
 pub mod WriteRise
-pub mod BenchRise
 pub mod Machine
 pub mod Demand3
 pub mod Valid
 pub mod Refuted
 pub mod Scrubs
+pub mod Starred

@@ -9,4 +9,3 @@ pub mod Sinking
 pub mod Groups
 pub mod Told
 pub mod Row
-pub mod Bench
