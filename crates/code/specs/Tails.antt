@@ -3,7 +3,7 @@
 --
 --   sumBelow f j       f 0 + f 1 + .. + f (j - 1)
 --   owed m i r v       what the later coordinates must leave, for all to leave r, where coordinate i is v
---   nothing r             nothing is chosen: 1 for r = 0, else 0
+--   nothing r          nothing is chosen: 1 for r = 0, else 0
 --   tailsFrom m k i r  how many choices of k coordinates from coordinate i on leave r, for r below m
 --   tails n i r        how many choices of the coordinates i to n - 1 leave r: the table's entry for n, start i, residue r
 --   having n i r v     how many of them have coordinate i at v, for v from 0 to i

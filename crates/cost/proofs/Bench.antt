@@ -1,4 +1,4 @@
--- A case in which an order is not its own list of ranks, as those of document 01 are.
+-- Displacements where an order is not its own list of ranks, as each order of document 01's cases 1 and 2 is.
 -- Assumes nothing.
 use mathlib.Core.Path.{_≡_, refl}
 use mathlib.Core.List.{[], _∷_}

@@ -1,12 +1,12 @@
--- What the calls of the program `rmcalls` that is printed whole (document 01, "Calls outside the list") answer, about the definition of apply.
+-- What the calls of the program `rmcalls` that is printed whole (document 01, "Calls outside the list") answer, about the definition of apply,
+-- in the records of the table of starred cases (specs/Starred).
 -- Assumes nothing.
 use Prim.Native.Nat.{ℕ}
 use mathlib.Core.Path.{_≡_, refl}
-use mathlib.Core.Bool.{Bool, true, false}
-use mathlib.Core.List.{List, [], _∷_, _++_}
+use mathlib.Core.Bool.{true, false}
+use mathlib.Core.List.{List, [], _∷_}
 use mathlib.Core.Option.{Option, none, some}
-use lib.ListN.{length, replicate}
-use Rattle.order.specs.Order.{noOrder}
+use lib.ListN.{length}
 use Rattle.order.specs.Refusals as refusals
 use Rattle.order.specs.Refusals.{Told}
 use Rattle.coordinates.specs.Coordinates.{coordinateOf, coordinatesTo, orderFrom}
@@ -21,41 +21,28 @@ use Rattle.group.specs.Levels.{level, put, atMost, rises, leaked}
 use Rattle.group.specs.Record.{allAtMost, isRow}
 use Rattle.group.specs.PushUp.{singles, top, floorOver, lift, raise, pushOf, rankPushes, pushes}
 use Rattle.group.specs.Sense.{above, insert, sorted, sensed}
-use Rattle.group.specs.Calls.{pushArray, raised, fits, pushed, openOf, leakOf}
+use Rattle.group.specs.Calls.{raised, fits, pushed, openOf, leakOf}
 use Rattle.engine.specs.declared.Kind.{Kind}
 use Rattle.engine.specs.declared.Kind.the-variants.{Store, Scrub, Leak, Read}
 use Rattle.engine.specs.declared.Call.{Call}
 use Rattle.engine.specs.Calls.{readOf, storeOf}
 use Rattle.engine.specs.Machine.{Step, scrubOf, applyOf}
-
--- three cells
-abbrev threeCells : List ℕ → List ℕ → Bool → Group
-threeCells levels caps written = record { n = 3; levels = levels ++ replicate 9 0; caps = caps ++ replicate 9 0; written = written }
-
-abbrev blank : ℕ → Group
-blank cap = threeCells (0 ∷ 0 ∷ 0 ∷ []) (4095 ∷ 4095 ∷ cap ∷ []) false
-
-abbrev push : ℕ → ℕ → Push
-push k level = record { cell = record { 0 = k }; level = level }
-
--- three cells with full caps, written
-abbrev holding : List ℕ → Group
-holding levels = threeCells levels (4095 ∷ 4095 ∷ 4095 ∷ []) true
+use Rattle.engine.specs.Starred.{places, cell, order, group, push, done}
 
 abbrev call : Kind → Call
-call kind = record { kind = kind; target = noOrder }
+call kind = record { kind = kind; target = order [] }
 
 -- an accepted call: the group left, the symbol, the verdict, the pulses and the pushes
 abbrev step : Group → ℕ → Option Verdict → ℕ → List Push → Told Step
 step g symbol verdict pulses ps =
-    record { number = 0; value = record { group = g; symbol = symbol; verdict = verdict; pulses = pulses; count = length ps; pushes = pushArray ps } }
+    done (record { group = g; symbol = symbol; verdict = verdict; pulses = pulses; count = length ps; pushes = places 11 (push 0 0) ps })
 
 -- open 3, store 1, leak cell 3 by 1, scrub, read: the scrub finds [2,3,1], put right at place 1
 pub case-printed :
-    (openOf 3 .value ≡ blank 4095)
-    × (applyOf (blank 4095) (call (Store 1)) ≡ step (holding (0 ∷ 1 ∷ 2 ∷ [])) 1 none 3 (push 2 1 ∷ push 3 2 ∷ []))
-    × (applyOf (holding (0 ∷ 1 ∷ 2 ∷ [])) (call (Leak (record { 0 = 3 }) 1)) ≡ step (holding (0 ∷ 1 ∷ 1 ∷ [])) 0 none 0 [])
-    × (applyOf (holding (0 ∷ 1 ∷ 1 ∷ [])) (call Scrub) ≡ step (holding (0 ∷ 1 ∷ 2 ∷ [])) 1 (some (PutRight (record { 0 = 1 }))) 1 (push 3 2 ∷ []))
-    × (applyOf (holding (0 ∷ 1 ∷ 2 ∷ [])) (call Read) ≡ step (holding (0 ∷ 1 ∷ 2 ∷ [])) 1 (some Clean) 0 [])
+    (openOf 3 ≡ done (group false (0 ∷ 0 ∷ 0 ∷ [])))
+    × (applyOf (group false (0 ∷ 0 ∷ 0 ∷ [])) (call (Store 1)) ≡ step (group true (0 ∷ 1 ∷ 2 ∷ [])) 1 none 3 (push 2 1 ∷ push 3 2 ∷ []))
+    × (applyOf (group true (0 ∷ 1 ∷ 2 ∷ [])) (call (Leak (cell 3) 1)) ≡ step (group true (0 ∷ 1 ∷ 1 ∷ [])) 0 none 0 [])
+    × (applyOf (group true (0 ∷ 1 ∷ 1 ∷ [])) (call Scrub) ≡ step (group true (0 ∷ 1 ∷ 2 ∷ [])) 1 (some (PutRight (record { 0 = 1 }))) 1 (push 3 2 ∷ []))
+    × (applyOf (group true (0 ∷ 1 ∷ 2 ∷ [])) (call Read) ≡ step (group true (0 ∷ 1 ∷ 2 ∷ [])) 1 (some Clean) 0 [])
 unfolding refusals.answer refusals.numberOf level put leaked atMost rises allAtMost isRow singles top floorOver lift raise pushOf rankPushes pushes raised fits pushed openOf leakOf storeOf scrubOf applyOf wordOf orderFrom K wordAt words vectors vectorsFrom joined select leaves weight above insert sorted sensed readOf readingAt correction firstBelow isCodeword symbolOf wordNumber indexOf same coordinatesTo coordinateOf
 case-printed = (refl, refl, refl, refl, refl)

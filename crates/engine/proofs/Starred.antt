@@ -5,8 +5,9 @@ use Rattle.order.specs.Refusals as refusals
 use Rattle.order.specs.Cells.{eachOnce, isOrder, allZero, isListing, placeFrom, placeOf}
 use Rattle.order.specs.Order.{cellNumbers, orderRecord}
 use Rattle.coordinates.specs.Coordinates.{coordinateOf, coordinatesTo, orderFrom}
+use Rattle.coordinates.specs.Calls.{coordinatesOf, coordinatesOfOrder}
 use Rattle.distance.specs.Distance.{distanceOf}
-use Rattle.cost.specs.Cost.{displacement, displacements, largerOf, largest, cost, costOf}
+use Rattle.cost.specs.Cost.{displacement, displacements, largerOf, largest, cost, displacementsOf, costOf}
 use Rattle.code.specs.Words.{joined, select, same, indexOf, vectorsFrom, weight, leaves, vectors, words, K, wordAt, wordNumber}
 use Rattle.code.specs.Decoding.{isCodeword, firstBelow, correction, symbolOf}
 use Rattle.code.specs.Calls.{wordOf, codewordOf, readingAt, decodeOf}
@@ -14,10 +15,10 @@ use Rattle.group.specs.Levels.{level, put, atMost, rises}
 use Rattle.group.specs.Record.{allAtMost, isRow}
 use Rattle.group.specs.PushUp.{singles, top, floorOver, lift, raise, pushOf, rankPushes, pushes}
 use Rattle.group.specs.Sense.{above, insert, sorted, sensed}
-use Rattle.group.specs.Calls.{raised, fits, pushed, writeOf}
+use Rattle.group.specs.Calls.{raised, fits, pushed, writeOf, senseOf}
 use Rattle.engine.specs.Calls.{readOf, storeOf}
-use Rattle.engine.specs.Starred.{EachHolds, starred}
+use Rattle.engine.specs.Starred.{EachRight, starred}
 
-pub starred-hold : EachHolds starred
-unfolding refusals.answer refusals.numberOf eachOnce isOrder allZero isListing placeFrom placeOf cellNumbers orderRecord coordinateOf coordinatesTo orderFrom distanceOf displacement displacements largerOf largest cost costOf joined select same indexOf vectorsFrom weight leaves vectors words K wordAt wordNumber isCodeword firstBelow correction symbolOf wordOf codewordOf readingAt decodeOf level put atMost rises allAtMost isRow singles top floorOver lift raise pushOf rankPushes pushes raised fits pushed writeOf above insert sorted sensed readOf storeOf
-starred-hold = (refl, (refl, (refl, (refl, (refl, (refl, (refl, (refl, (refl, (refl, (refl, (refl, (refl, (refl, (refl, (refl, (refl, (refl, (refl, (refl, (refl, (refl, (refl, (refl, tt))))))))))))))))))))))))
+pub starred-hold : EachRight starred
+unfolding refusals.answer refusals.numberOf eachOnce isOrder allZero isListing placeFrom placeOf cellNumbers orderRecord coordinateOf coordinatesTo orderFrom coordinatesOf coordinatesOfOrder distanceOf displacement displacements largerOf largest cost displacementsOf costOf joined select same indexOf vectorsFrom weight leaves vectors words K wordAt wordNumber isCodeword firstBelow correction symbolOf wordOf codewordOf readingAt decodeOf level put atMost rises allAtMost isRow singles top floorOver lift raise pushOf rankPushes pushes raised fits pushed writeOf above insert sorted sensed senseOf readOf storeOf
+starred-hold = (refl, (refl, (refl, (refl, (refl, (refl, (refl, (refl, (refl, (refl, (refl, (refl, (refl, (refl, (refl, (refl, (refl, (refl, (refl, (refl, (refl, (refl, (refl, (refl, (refl, (refl, (refl, (refl, tt))))))))))))))))))))))))))))
