@@ -26,7 +26,7 @@ use Rattle.engine.specs.declared.Kind.{Kind}
 use Rattle.engine.specs.declared.Kind.the-variants.{Write, Store, Scrub, Leak, Wear, Erase, Read}
 use Rattle.engine.specs.declared.Call.{Call}
 use Rattle.engine.specs.Machine.{quiet, writes, targetBy, target, earlierChecks, applyOf, checks}
-use Rattle.engine.specs.Rivals.{Rival, Raised, Follows, Moves, entrant, latest, after, pulsesOf, plainAfter, Course, rest, next, plain, own, Raisable, Demand3}
+use Rattle.engine.specs.Rivals.{Rival, Raised, Follows, Moves, entrant, latest, after, pulsesOf, plainAfter, Course, rest, next, plain, own, Raisable, Demand3, MeetsDemand3}
 use Rattle.engine.proofs.Machine.{acceptBy, accept, apply-number, apply-value, same-group, apply-group, target-shows, done-checks, done-fits, worn-beyond, apply-rises}
 
 -- the rival r beside the group g, whose answers have added up to q
@@ -59,7 +59,7 @@ abbrev ourselves : Group → ℕ → Rival
 ourselves g q = record { levels = g .levels; caps = g .caps; pulses = q }
 
 -- the plain machine goes with us
-plain-step : (g : Group) (c : Call) → plainAfter applyOf (applyOf g c .number) g c ≡ applyOf g c .value .group
+plain-step : (g : Group) (c : Call) → plainAfter (applyOf g c .number) g c ≡ applyOf g c .value .group
 unfolding plainAfter
 plain-step g c = same-group g c
 
@@ -110,7 +110,7 @@ beside-course : {g p : Group} {r : Rival} {cs : List Call} {ss : List Rival} (q 
 unfolding after pulsesOf latest
 beside-course q e rest b = rw add-zero b
 beside-course q e (next {g} {p} {r} {s} {c} m k) b =
-    let same : plainAfter applyOf (applyOf g c .number) p c ≡ applyOf g c .value .group = rw e (plain-step g c) in
+    let same : plainAfter (applyOf g c .number) p c ≡ applyOf g c .value .group = rw e (plain-step g c) in
     rw (← add-assoc) (beside-course _ same k (beside-step g q c r s (rw e at m) b))
 
 -- ---- our own course is that of a rival
@@ -158,7 +158,7 @@ our-course g q [] h = rest
 our-course g q (c ∷ cs) h =
     let new = applyOf g c .value .group in
     let more = q + rises (g .levels) (new .levels) in
-    let later : Course applyOf new (plainAfter applyOf (applyOf g c .number) g c) (ourselves new more) cs (own applyOf new more cs) = rw (plain-step g c) (our-course new more cs (apply-group g c h)) in
+    let later : Course applyOf new (plainAfter (applyOf g c .number) g c) (ourselves new more) cs (own applyOf new more cs) = rw (plain-step g c) (our-course new more cs (apply-group g c h)) in
     next (our-step g q c h) later
 
 -- it ends at our group, with the pulses of our answers
@@ -218,7 +218,7 @@ module _ (g : Group) (h : IsGroup g) (cs : List Call) where
 
 -- ---- the mission's case: a freshly opened group
 
-pub demand3-open : (n : ℕ) → openOf n .number ≡ 0 → (cs : List Call) → Demand3 applyOf (openOf n .value) cs
+pub demand3-open : MeetsDemand3 applyOf
 demand3-open n e cs = demand3 (openOf n .value) (open-group n e) cs
 
 pub opened-group : (n : ℕ) → isSize n ≡ true → IsGroup (opened n)

@@ -3,7 +3,7 @@
 -- Assumes nothing.
 use Prim.Native.Nat.{ℕ, zero, suc}
 use mathlib.Core.Path.{_≡_, refl, sym, ap, _∙_}
-use mathlib.Core.Bool.{Bool, true, false, false≢true, _&&_}
+use mathlib.Core.Bool.{Bool, true, false, false≢true, cond, _&&_}
 use mathlib.Core.List.{List, [], _∷_, _++_}
 use mathlib.Core.Option.{none}
 use native.Mathlib.Omega.{arith}
@@ -150,22 +150,13 @@ apply-group g c h = group-by g (c .target) (c .kind) h
 
 -- ---- worn: past the earlier checks, the caps decide
 
-split-by : (g : Group) (o : Order) (k : Kind) → writes k ≡ true → checksBy g o k ≡ earlierBy g o k ++ (fits g (targetBy g o k), Worn) ∷ []
-split-by g o Write w = refl
-split-by g o (Store s) w = refl
-split-by g o Scrub w = refl
-split-by g o (Leak c d) w = absurd (false≢true w)
-split-by g o (Wear c cap) w = absurd (false≢true w)
-split-by g o Erase w = absurd (false≢true w)
-split-by g o Read w = absurd (false≢true w)
-
 module _ (g : Group) (c : Call) (w : writes (c .kind) ≡ true) where
   last : List (Bool × Refusal)
   last = (fits g (target g c), Worn) ∷ []
 
   split : numberOf (checks g c) ≡ numberOf (earlierChecks g c ++ last)
   unfolding last
-  split = ap numberOf (split-by g (c .target) (c .kind) w)
+  split = ap (λ (b : Bool). numberOf (earlierChecks g c ++ cond b last [])) w
 
   -- a write that is done passed the earlier checks, and no new level is above its cap
   pub done-checks : numberOf (checks g c) ≡ 0 → (numberOf (earlierChecks g c) ≡ 0) × AtMost (raised g (target g c)) (g .caps)

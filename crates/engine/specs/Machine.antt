@@ -10,11 +10,11 @@
 --   scrubOf g           the answer to `scrub`: read, then write the codeword found
 --   writes k            the calls that raise cells: write, store and scrub
 --   target g c          the order that such a call is to show; another call has the empty target
---   checks g c          the checks of a call, in the order in which they run
---   earlierChecks g c   those of a write, a store or a scrub before 8
+--   earlierChecks g c   the checks of a call that run before 8, in the order in which they run
+--   checks g c          all of them: a write, a store or a scrub is checked for 8 last
 --   applyOf g c         the answer to `apply`: one call of the plain machine
 use Prim.Native.Nat.{ℕ}
-use mathlib.Core.Bool.{Bool, true, false}
+use mathlib.Core.Bool.{Bool, true, false, cond}
 use mathlib.Core.List.{List, [], _∷_, _++_}
 use mathlib.Core.Option.{Option, none, some}
 use lib.Dec.{ltb}
@@ -30,14 +30,14 @@ use Rattle.code.specs.Calls.{wordOf, Reading}
 use Rattle.group.specs.declared.Group.{Group}
 use Rattle.group.specs.declared.Push.{Push}
 use Rattle.group.specs.Record.{groupChecks}
-use Rattle.group.specs.Calls.{Program, cellChecks, wearChecks, writeChecks, pushArray, fits, pushed, leakOf, wearOf, eraseOf, writeOf}
+use Rattle.group.specs.Calls.{Program, cellChecks, wearChecks, pushArray, fits, pushed, leakOf, wearOf, eraseOf, writeOf}
 use Rattle.engine.specs.declared.Kind.{Kind}
 use Rattle.engine.specs.declared.Kind.the-variants.{Write, Store, Scrub, Leak, Wear, Erase, Read}
 use Rattle.engine.specs.declared.Call.{Call}
 use Rattle.engine.specs.declared.Judged.{Judged}
 use Rattle.engine.specs.declared.Judged.the-variants.{Nothing, By}
 use Rattle.engine.specs.declared.Applied.{Applied}
-use Rattle.engine.specs.Calls.{sensedOrder, placeRead, readChecks, readingOf, readOf, storeChecks, storeOf}
+use Rattle.engine.specs.Calls.{sensedOrder, placeRead, readChecks, readingOf, readOf, storeOf}
 
 -- ---- answers
 
@@ -108,29 +108,23 @@ targetBy g o Read = []
 abbrev pub target : Group → Call → List ℕ
 target g c = targetBy g (c .target) (c .kind)
 
-abbrev pub checksBy : Group → Order → Kind → List (Bool × Refusal)
-checksBy g o Write = writeChecks g o
-checksBy g o (Store s) = storeChecks g s
-checksBy g o Scrub = scrubChecks g
-checksBy g o (Leak c d) = cellChecks g c
-checksBy g o (Wear c cap) = wearChecks g c cap
-checksBy g o Erase = groupChecks g
-checksBy g o Read = readChecks g
-
-abbrev pub checks : Group → Call → List (Bool × Refusal)
-checks g c = checksBy g (c .target) (c .kind)
-
 abbrev pub earlierBy : Group → Order → Kind → List (Bool × Refusal)
 earlierBy g o Write = groupChecks g ++ (isOrderOf (g .n) o, NoOrder) ∷ []
 earlierBy g o (Store s) = groupChecks g ++ (ltb s (K (g .n)), NoSymbol) ∷ []
 earlierBy g o Scrub = readChecks g
-earlierBy g o (Leak c d) = []
-earlierBy g o (Wear c cap) = []
-earlierBy g o Erase = []
-earlierBy g o Read = []
+earlierBy g o (Leak c d) = cellChecks g c
+earlierBy g o (Wear c cap) = wearChecks g c cap
+earlierBy g o Erase = groupChecks g
+earlierBy g o Read = readChecks g
 
 abbrev pub earlierChecks : Group → Call → List (Bool × Refusal)
 earlierChecks g c = earlierBy g (c .target) (c .kind)
+
+abbrev pub checksBy : Group → Order → Kind → List (Bool × Refusal)
+checksBy g o k = earlierBy g o k ++ cond (writes k) ((fits g (targetBy g o k), Worn) ∷ []) []
+
+abbrev pub checks : Group → Call → List (Bool × Refusal)
+checks g c = checksBy g (c .target) (c .kind)
 
 -- an accepted write carries symbol 0, an accepted store the symbol stored; a refused one 0
 abbrev pub afterProgram : Told Program → ℕ → Told Step

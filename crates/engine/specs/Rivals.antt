@@ -1,7 +1,8 @@
 -- Document 01, "The rivals of demand 3", and demand 3: one claim about every list of calls on one group.
--- The claim is about any machine that answers calls. That ours meets it is the theorem `demand3` (proofs/Demand3) about `applyOf`, which is the
--- whole answer of the public function `apply` by its contract. Of a machine's answers it speaks of the number, the levels, the caps and the
--- pulses; the symbol, the verdict, the pushes and the mark are fixed by the contracts.
+-- The claim is about any machine that answers calls. That ours meets it is the theorem `demand3-open` (proofs/Demand3) about `applyOf`, which is
+-- the whole answer of the public function `apply` by its contract. Of a machine's answers it speaks of the number, the pulses and the group:
+-- of its levels and caps beside the rivals', and of the whole record in the checks of the call that comes next. The symbol, the verdict and
+-- the pushes are fixed by the contracts alone.
 --
 --   Rival               a rival at one moment: levels and caps, as a group has them, and its pulses
 --   Raised t r s        at an accepted write, store or scrub of target t it comes from r to s: it raises any cells by any amounts and lowers
@@ -10,15 +11,17 @@
 --   Moves number k t r s    and at any call: one answered with number 0 was accepted; at any other nothing changes
 --   entrant g           at first it has the levels and caps of the record that the list starts from, and no pulses
 --   latest r ss         where a rival stands that was at r and came to these states since
+--   plainAfter          the plain machine's group after one call: it goes with the accepted ones
 --   Machine             the claim is about it: it answers a call on a record
 --   after, pulsesOf     its group after the calls, each handed the record as the call before left it, and what its answers add up to
---   plainAfter, plain   the plain machine's group after one call, and after all: it has had the same start and the same accepted calls
+--   plain               the plain machine's group after the calls: it has had the same start and the same accepted calls
 --   Course, IsRival     a rival and its states after each of the calls. It is fed the arguments and whether each call was accepted; the target
 --                       of a scrub is the codeword that the plain machine finds when it reads there
 --   own g q cs          the machine's own course from the group g, with q pulses so far: its levels and caps after each call, and the sum of
 --                       the rises of its levels
 --   Raisable            some rival so far can be raised to show t within the caps
---   Demand3             the parts of demand 3
+--   Demand3 g cs        the parts of demand 3, of a machine that starts from the group g and has had the calls cs
+--   MeetsDemand3        the whole of demand 3: of every list of calls, from the record that an accepted open returned
 use Prim.Native.Nat.{ℕ, zero, suc, _+_, _≤_}
 use mathlib.Core.Path.{_≡_}
 use mathlib.Core.Logic.{_↔_}
@@ -29,6 +32,7 @@ use Rattle.order.specs.Refusals.{numberOf, ifDone, Told}
 use Rattle.group.specs.declared.Group.{Group}
 use Rattle.group.specs.Levels.{put, AtMost, rises, leaked}
 use Rattle.group.specs.PushUp.{singles, Shows}
+use Rattle.group.specs.Calls.{openOf}
 use Rattle.engine.specs.declared.Kind.{Kind}
 use Rattle.engine.specs.declared.Kind.the-variants.{Write, Store, Scrub, Leak, Wear, Erase, Read}
 use Rattle.engine.specs.declared.Call.{Call}
@@ -66,6 +70,10 @@ unfoldable pub latest : Rival → List Rival → Rival
 latest r [] = r
 latest r (s ∷ ss) = latest s ss
 
+-- the plain machine's group p after a call that was answered with this number
+unfoldable pub plainAfter : ℕ → Group → Call → Group
+plainAfter number p c = ifDone number (applyOf p c .value .group) p
+
 abbrev pub Machine : Type 0
 Machine = Group → Call → Told Step
 
@@ -77,10 +85,6 @@ module _ (run : Machine) where
   unfoldable pub pulsesOf : Group → List Call → ℕ
   pulsesOf g [] = 0
   pulsesOf g (c ∷ cs) = run g c .value .pulses + pulsesOf (run g c .value .group) cs
-
-  -- the plain machine's group p after a call that was answered with this number
-  unfoldable pub plainAfter : ℕ → Group → Call → Group
-  plainAfter number p c = ifDone number (applyOf p c .value .group) p
 
   -- g is the machine's group, p the plain machine's, r where the rival stands
   pub data Course : Group → Group → Rival → List Call → List Rival → Type 0 where
@@ -121,3 +125,6 @@ module _ (run : Machine) where
     -- show its target within the caps
     pub worn-exactly : (c : Call) → writes (c .kind) ≡ true → numberOf (earlierChecks (after g cs) c) ≡ 0
         → (run (after g cs) c .number ≡ 8) ↔ (¬ (Raisable g cs (target (plain g g cs) c)))
+
+  abbrev pub MeetsDemand3 : Type 0
+  MeetsDemand3 = (n : ℕ) → openOf n .number ≡ 0 → (cs : List Call) → Demand3 (openOf n .value) cs
