@@ -1,0 +1,93 @@
+-- Numbers in base ten: how one is spelled from its last digit, how long it is, and that the digits give it back.
+-- Assumes nothing.
+use mathlib.Core.Path.{_≡_, refl, sym, ap, _∙_}
+use Prim.Native.Nat.{ℕ, zero, suc, _+_, _*_, _/_, _%_, _^_, _-_, _≤_, _<_}
+use native.Mathlib.Omega.{arith}
+use native.Mathlib.Nat.{pow-suc, lt-of-lt-of-le}
+use mathlib.Core.Bool.{Bool, true, false}
+use mathlib.Core.List.{List, [], _∷_, _++_}
+use lib.Dec.{T, ltb, leb, leb→le}
+use lib.ListN.{length, length-append}
+use borrow.Author.Tests.{ltb-true, ltb-false, lt-ltb, le-ltb}
+use Rattle.calls.specs.Text.{spelled, decimal}
+
+spelled-digit : (k n : ℕ) → n < 10 → spelled (suc k) n ≡ (48 + n) ∷ []
+unfolding spelled
+spelled-digit k n h = rw (lt-ltb n 10 h) refl
+
+spelled-last : (k n : ℕ) → 10 ≤ n → spelled (suc k) n ≡ spelled k (n / 10) ++ (48 + n % 10) ∷ []
+unfolding spelled
+spelled-last k n h = rw (le-ltb n 10 h) refl
+
+-- the bound on the digits does not show, where it is above the number
+spelled-enough : (k m n : ℕ) → n < k → n < m → spelled k n ≡ spelled m n
+spelled-enough zero m n h i = absurd (omega arith)
+spelled-enough (suc k) zero n h i = absurd (omega arith)
+spelled-enough (suc k) (suc m) n h i = go (ltb n 10) refl (λ a b. spelled-enough k m (n / 10) a b)
+  where
+    go : (t : Bool) → ltb n 10 ≡ t → (n / 10 < k → n / 10 < m → spelled k (n / 10) ≡ spelled m (n / 10)) → spelled (suc k) n ≡ spelled (suc m) n
+    go true e rest = spelled-digit k n (ltb-true n 10 e) ∙ sym (spelled-digit m n (ltb-true n 10 e))
+    go false e rest =
+        let ten : 10 ≤ n = ltb-false n 10 e in
+        let a : n / 10 < k = omega arith in
+        let b : n / 10 < m = omega arith in
+        spelled-last k n ten ∙ ap (λ (ds : List ℕ). ds ++ (48 + n % 10) ∷ []) (rest a b) ∙ sym (spelled-last m n ten)
+
+-- one digit
+pub decimal-digit : (n : ℕ) → n < 10 → decimal n ≡ (48 + n) ∷ []
+unfolding decimal
+decimal-digit n h = spelled-digit n n h
+
+-- the last digit comes after the others
+pub decimal-last : (n : ℕ) → 10 ≤ n → decimal n ≡ decimal (n / 10) ++ (48 + n % 10) ∷ []
+unfolding decimal
+decimal-last n h =
+    let a : n / 10 < n = omega arith in
+    let b : n / 10 < suc (n / 10) = omega arith in
+    spelled-last n n h ∙ ap (λ (ds : List ℕ). ds ++ (48 + n % 10) ∷ []) (spelled-enough n (suc (n / 10)) (n / 10) a b)
+
+pub digit-length : (n : ℕ) → n < 10 → length (decimal n) ≡ 1
+digit-length n h = ap length (decimal-digit n h)
+
+pub last-length : (n : ℕ) → 10 ≤ n → length (decimal n) ≡ length (decimal (n / 10)) + 1
+last-length n h = ap length (decimal-last n h) ∙ length-append (decimal (n / 10)) ((48 + n % 10) ∷ [])
+
+-- a number below 10 ^ (k + 1) has at most k + 1 digits
+pub decimal-length : (k n : ℕ) → n < 10 ^ suc k → length (decimal n) ≤ suc k
+decimal-length zero n h = omega (arith, digit-length n h)
+decimal-length (suc k) n h = go (ltb n 10) refl (decimal-length k (n / 10))
+  where
+    go : (t : Bool) → ltb n 10 ≡ t → (n / 10 < 10 ^ suc k → length (decimal (n / 10)) ≤ suc k) → length (decimal n) ≤ suc (suc k)
+    go true e shorter = omega (arith, digit-length n (ltb-true n 10 e))
+    go false e shorter =
+        let p : 10 ^ suc (suc k) ≡ 10 ^ suc k * 10 = pow-suc 10 (suc k) in
+        let s : n / 10 < 10 ^ suc k = omega arith in
+        let i : length (decimal (n / 10)) ≤ suc k = shorter s in
+        omega (arith, last-length n (ltb-false n 10 e))
+
+-- the same of a number of a type: its bound is tested once
+pub short : (k b : ℕ) {n : ℕ} → n < b → T (leb b (10 ^ suc k)) → length (decimal n) ≤ suc k
+short k b h t = decimal-length k _ (lt-of-lt-of-le h (leb→le b (10 ^ suc k) t))
+
+-- ---- the digits of a number give it back
+
+abbrev valueFrom : ℕ → List ℕ → ℕ
+valueFrom v [] = v
+valueFrom v (d ∷ ds) = valueFrom (v * 10 + (d - 48)) ds
+
+value-append : (v : ℕ) (ds es : List ℕ) → valueFrom v (ds ++ es) ≡ valueFrom (valueFrom v ds) es
+value-append v [] es = refl
+value-append v (d ∷ ds) es = value-append (v * 10 + (d - 48)) ds es
+
+pub decimal-value : (k n : ℕ) → n < k → valueFrom 0 (decimal n) ≡ n
+decimal-value zero n h = absurd (omega arith)
+decimal-value (suc k) n h = go (ltb n 10) refl (decimal-value k (n / 10))
+  where
+    go : (t : Bool) → ltb n 10 ≡ t → (n / 10 < k → valueFrom 0 (decimal (n / 10)) ≡ n / 10) → valueFrom 0 (decimal n) ≡ n
+    go true e shorter = rw (decimal-digit n (ltb-true n 10 e)) (omega arith)
+    go false e shorter =
+        let ten : 10 ≤ n = ltb-false n 10 e in
+        let i : valueFrom 0 (decimal (n / 10)) ≡ n / 10 = shorter (omega arith) in
+        let a : valueFrom 0 (decimal (n / 10) ++ (48 + n % 10) ∷ []) ≡ valueFrom 0 (decimal (n / 10)) * 10 + (48 + n % 10 - 48) =
+        value-append 0 (decimal (n / 10)) ((48 + n % 10) ∷ []) in
+        rw (decimal-last n ten) (omega arith)

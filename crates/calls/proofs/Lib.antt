@@ -1,0 +1,8 @@
+pub mod Paste
+pub mod Decimal
+pub mod Digits
+pub mod Bytes
+pub mod Whole
+pub mod Running
+pub mod Commas
+pub mod Fields

@@ -1,0 +1,34 @@
+-- `calls::open` meets its contract.
+-- Assumes nothing.
+use borrow.Author.Needs.{needs}
+use mathlib.Core.Path.{_≡_, refl, sym}
+use Rattle.order.proofs.Refusals.{refused-zeros}
+use Rattle.group.specs.declared.Group.{Group}
+use Rattle.group.specs.Calls.{toldChanged, openOf}
+use Rattle.calls.proofs.open.Statement.{statement}
+use Rattle.calls.proofs.open.Tie as tie
+
+open-requires : tie.Need-open-requires
+open-requires c κs = search needs
+
+enum-told : tie.Need-enum-told
+enum-told c = search needs
+
+enum-told-2 : tie.Need-enum-told-2
+enum-told-2 c = search needs
+
+returns : tie.Need-returns
+returns c =
+    let o = c .before .before .before in
+    let e : toldChanged (o .«open» .result) ≡ openOf (o .before .args .n) = o .«open» .ensures in
+    rw (sym e, c .before .enum-told .given .1) refl
+
+returns-2 : tie.Need-returns-2
+returns-2 c =
+    let o = c .before .before in
+    let e : toldChanged (o .«open» .result) ≡ openOf (o .before .args .n) = o .«open» .ensures in
+    let told = c .enum-told2 .given in
+    rw (sym e, told .1, refused-zeros {A = Group} (told .0 .0) (o .«open» .result .group) (o .before .args .g)) refl
+
+pub open-spec : {M : Type 1} → statement M
+open-spec = tie.close (tie.spec open-requires enum-told enum-told-2 returns returns-2)

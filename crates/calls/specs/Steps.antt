@@ -1,0 +1,18 @@
+-- What the contracts of the private functions cite: a text put into a lent buffer. No public contract cites this file.
+--
+--   pasted at t xs              xs with the text t from place at on
+--   Puts before later at end t  a buffer was before and is later, as long as it was: the text t, which had room, went in from place at to
+--                               the place end
+use Prim.Native.Nat.{ℕ, _+_, _≤_}
+use mathlib.Core.Path.{_≡_}
+use mathlib.Core.List.{List, _++_}
+use lib.ListN.{length, take, drop}
+
+unfoldable pub pasted : ℕ → List ℕ → List ℕ → List ℕ
+pasted at t xs = take at xs ++ t ++ drop (at + length t) xs
+
+pub record Puts (before later : List ℕ) (at end : ℕ) (t : List ℕ) : Type 0 where
+  pub fits : at + length t ≤ length before
+  pub put : later ≡ pasted at t before
+  pub kept : length later ≡ length before
+  pub ends : end ≡ at + length t

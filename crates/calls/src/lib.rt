@@ -1,0 +1,378 @@
+// The call records of the program `rmcalls` (document 01, "Calls outside the list") over byte slices: `step`, the answer to one record, and
+// `run`, a whole input turned into the text that the program prints. Both take anything and have one equation with a definition of specs/.
+use engine::Applied;
+use engine::Call;
+use engine::Kind;
+use group::Group;
+use order::Cell;
+use order::Order;
+use order::Outcome;
+use order::Refusal;
+ghost use mathlib.Core.Path.{_≡_};
+ghost use mathlib.Core.List.{[], _∷_, _++_};
+ghost use Prim.Native.Nat.{_+_, _*_, _≤_, _<_, min};
+ghost use lib.ListN.{length, take, drop};
+ghost use Rattle.order.specs.Cells.{tabulate};
+ghost use Rattle.order.specs.Order.{noOrder};
+ghost use Rattle.group.specs.Record.{noGroup};
+ghost use Rattle.group.specs.Calls.{openOf};
+ghost use Rattle.engine.specs.Machine.{toldApplied, applyOf};
+ghost use Rattle.calls.specs.Records.{lowFirst, recordAt, usesCell, unusedZero, requestOf, toldAnswered, afterApply, afterOpen, stepOf};
+ghost use Rattle.calls.specs.Text.{decimal, after, levelText, numbersOf, lineOf, lines, allPulses, leftLine, sumLine, room, printed};
+ghost use Rattle.calls.specs.Steps.{Puts};
+
+const BLANK: u8 = 32;
+
+const COMMA: u8 = 44;
+
+const DASH: u8 = 45;
+
+const LINE_FEED: u8 = 10;
+
+// The most bytes of an input that are read.
+const MOST: usize = 65536;
+
+// A call record: its two zero bytes are one field.
+pub struct CallRecord {
+    pub kind: u8,
+    pub cell: Cell,
+    pub reserved: u16,
+    pub value: u32,
+}
+
+// What a record's line shows of the answer to it.
+pub struct Answered {
+    pub outcome: Outcome,
+    pub group: Group,
+    pub symbol: u32,
+    pub pulses: u32,
+}
+
+// What a record asks for.
+pub enum Request {
+    Bad,
+    Open(u32),
+    Apply(Kind),
+}
+
+// Where the lines of the records end, and the pulses of all of them.
+struct Printed {
+    end: usize,
+    pulses: u64,
+}
+
+// The answer to a record, for the group that the record before it left. A refused open keeps that group.
+pub fn step(g: Group, r: CallRecord) -> Answered
+    ensures { λ a. ⌜ toldAnswered a ≡ stepOf g r ⌝ }
+{
+    let request = request_of(r);
+    match request {
+        Request::Bad => Answered {
+            outcome: Outcome::Refused(Refusal::BadRecord),
+            group: g,
+            symbol: 0,
+            pulses: 0,
+        },
+        Request::Open(n) => open(g, n),
+        Request::Apply(kind) => apply(g, kind),
+    }
+}
+
+// Puts what `rmcalls` prints for an input at the start of out, and answers how many bytes that are. Where out is shorter than
+// 16 bytes for each byte of the input, and 64, it stays as it was, and the answer is 0.
+pub fn run(input: &[u8], out: &mut [u8]) -> usize
+    ensures { λ r. ⌜ r ≡ length (printed (now (input .entry)) (now (out .entry))) ⌝ }
+    ensures { λ r. ⌜ now (out .exit) ≡ printed (now (input .entry)) (now (out .entry)) ++ drop r (now (out .entry)) ⌝ }
+{
+    let size = size_read(input.len());
+    if out.len() < 16 * size + 64 {
+        return 0;
+    }
+    let printed = put_lines(&input[..size], size / 8, out);
+    let left = put_left(out, printed.end, size % 8);
+    put_sum(out, left, printed.pulses)
+}
+
+// How many of the bytes are read.
+fn size_read(size: usize) -> usize
+    ensures { λ r. ⌜ (r ≡ min 65536 size) × (r ≤ size) ⌝ }
+{
+    if MOST < size { MOST } else { size }
+}
+
+fn request_of(r: CallRecord) -> Request
+    ensures { λ q. ⌜ q ≡ requestOf r ⌝ }
+{
+    if !unused_zero(r) {
+        return Request::Bad;
+    }
+    let cell = r.cell;
+    let value = r.value;
+    let kind = r.kind;
+    match kind {
+        0 => Request::Open(value),
+        1 => Request::Apply(Kind::Store(value)),
+        2 => Request::Apply(Kind::Scrub),
+        3 => Request::Apply(Kind::Leak(cell, value)),
+        4 => Request::Apply(Kind::Wear(cell, value)),
+        5 => Request::Apply(Kind::Erase),
+        6 => Request::Apply(Kind::Read),
+        _ => Request::Bad,
+    }
+}
+
+// Whether the fields that a kind does not use are 0. The kinds that have a cell have a value too.
+fn unused_zero(r: CallRecord) -> bool
+    ensures { λ b. ⌜ b ≡ unusedZero r ⌝ }
+{
+    if r.reserved != 0 {
+        return false;
+    }
+    let kind = r.kind;
+    if uses_cell(kind) {
+        return true;
+    }
+    let cell = r.cell;
+    if cell.0 != 0 {
+        return false;
+    }
+    if kind <= 1 {
+        return true;
+    }
+    r.value == 0
+}
+
+fn uses_cell(kind: u8) -> bool
+    ensures { λ b. ⌜ b ≡ usesCell kind ⌝ }
+{
+    if kind == 3 {
+        return true;
+    }
+    kind == 4
+}
+
+// A new group, or the group that there was.
+fn open(g: Group, n: u32) -> Answered
+    ensures { λ a. ⌜ toldAnswered a ≡ afterOpen g (openOf n) ⌝ }
+{
+    let opened = group::open(n as usize);
+    let outcome = opened.outcome;
+    let mut group = g;
+    if let Outcome::Done = outcome {
+        let fresh = opened.group;
+        group = fresh;
+    }
+    Answered {
+        outcome,
+        group,
+        symbol: 0,
+        pulses: 0,
+    }
+}
+
+// A call of the machine. None of the kinds here has an order.
+fn apply(g: Group, kind: Kind) -> Answered
+    ensures { λ a. ⌜ toldAnswered a ≡ afterApply (applyOf g (record { kind = kind; target = noOrder })) ⌝ }
+{
+    let target = Order {
+        len: 0,
+        cells: [Cell(0); 12],
+    };
+    let applied = engine::apply(g, Call { kind, target });
+    let outcome = applied.outcome;
+    let group = applied.group;
+    Answered {
+        outcome,
+        group,
+        symbol: applied.symbol,
+        pulses: applied.pulses,
+    }
+}
+
+// Record i of the input, from 0.
+fn record_at(input: &[u8], i: usize) -> CallRecord
+    requires { ⌜ 8 * i + 8 ≤ length (now input) ⌝ }
+    ensures { λ r. ⌜ r ≡ recordAt (now (input .entry)) i ⌝ }
+{
+    let at = 8 * i;
+    let low = pair(input, at + 4) as u32;
+    let high = pair(input, at + 6) as u32;
+    CallRecord {
+        kind: input[at],
+        cell: Cell(input[at + 1]),
+        reserved: pair(input, at + 2),
+        value: low + 65536 * high,
+    }
+}
+
+// The number in two bytes.
+fn pair(input: &[u8], at: usize) -> u16
+    requires { ⌜ at + 2 ≤ length (now input) ⌝ }
+    ensures { λ r. ⌜ r ≡ lowFirst 2 at (now (input .entry)) ⌝ }
+{
+    wide(input[at]) + 256 * wide(input[at + 1])
+}
+
+fn wide(b: u8) -> u16
+    ensures { λ r. ⌜ (r ≡ b) × (r < 256) ⌝ }
+{
+    b as u16
+}
+
+// The lines of the first records of an input, at the start of out. The first record is handed the all-zero record.
+fn put_lines(input: &[u8], count: usize, out: &mut [u8]) -> Printed
+    requires { ⌜ (count ≤ 8192) × (8 * count ≤ length (now input)) ⌝ }
+    requires { ⌜ 128 * count ≤ length (now out) ⌝ }
+    ensures { λ r. ⌜ Puts (now (out .entry)) (now (out .exit)) 0 (r .end) (lines 1 noGroup (tabulate count (recordAt (now (input .entry))))) ⌝ }
+    ensures { λ r. ⌜ r .end ≤ 128 * count ⌝ }
+    ensures { λ r. ⌜ r .pulses ≡ allPulses noGroup (tabulate count (recordAt (now (input .entry)))) ⌝ }
+{
+    let mut g = Group {
+        n: 0,
+        levels: [0; 12],
+        caps: [0; 12],
+        written: false,
+    };
+    let mut pulses: u64 = 0;
+    let mut end = 0;
+    let mut i = 0;
+    while i < count {
+        let r = record_at(input, i);
+        let a = step(g, r);
+        i += 1;
+        end = put_line(out, end, i as u32, r.kind, a);
+        pulses += a.pulses as u64;
+        let next = a.group;
+        g = next;
+    }
+    Printed { end, pulses }
+}
+
+// A record's line.
+fn put_line(out: &mut [u8], at: usize, position: u32, kind: u8, a: Answered) -> usize
+    requires { ⌜ at + 128 ≤ length (now out) ⌝ }
+    ensures { λ r. ⌜ Puts (now (out .entry)) (now (out .exit)) at r (lineOf position kind (toldAnswered a)) ⌝ }
+    ensures { λ r. ⌜ r ≤ at + 128 ⌝ }
+{
+    let outcome = a.outcome;
+    let number = order::outcome_number(outcome);
+    let group = a.group;
+    let levels = group.levels;
+    let mut end = put_numbers(out, at, position, kind, number, a.symbol, a.pulses);
+    end = put_byte(out, end, BLANK);
+    end = put_levels(out, end, group.n, levels);
+    put_byte(out, end, LINE_FEED)
+}
+
+// The numbers of a line, up to the levels.
+fn put_numbers(
+    out: &mut [u8],
+    at: usize,
+    position: u32,
+    kind: u8,
+    number: u8,
+    symbol: u32,
+    pulses: u32,
+) -> usize
+    requires { ⌜ at + 54 ≤ length (now out) ⌝ }
+    ensures { λ r. ⌜ Puts (now (out .entry)) (now (out .exit)) at r (numbersOf position kind number symbol pulses) ⌝ }
+    ensures { λ r. ⌜ r ≤ at + 54 ⌝ }
+{
+    let mut end = put_number(out, at, position as u64);
+    end = put_field(out, end, kind as u32);
+    end = put_field(out, end, number as u32);
+    end = put_field(out, end, symbol);
+    put_field(out, end, pulses)
+}
+
+// A blank, and a number after it.
+fn put_field(out: &mut [u8], at: usize, n: u32) -> usize
+    requires { ⌜ at + 11 ≤ length (now out) ⌝ }
+    ensures { λ r. ⌜ Puts (now (out .entry)) (now (out .exit)) at r (after 32 n) ⌝ }
+    ensures { λ r. ⌜ r ≤ at + 11 ⌝ }
+{
+    put_after(out, at, BLANK, n as u64)
+}
+
+// The levels of cells 1 to n, joined by commas.
+fn put_levels(out: &mut [u8], at: usize, n: usize, levels: [u16; 12]) -> usize
+    requires { ⌜ at + 72 ≤ length (now out) ⌝ }
+    ensures { λ r. ⌜ Puts (now (out .entry)) (now (out .exit)) at r (levelText (take n levels)) ⌝ }
+    ensures { λ r. ⌜ r ≤ at + 72 ⌝ }
+{
+    if n == 0 {
+        return put_byte(out, at, DASH);
+    }
+    let mut end = put_number(out, at, level_number(levels[0]));
+    let mut i = 1;
+    while i < n && i < 12 {
+        end = put_after(out, end, COMMA, level_number(levels[i]));
+        i += 1;
+    }
+    end
+}
+
+fn level_number(level: u16) -> u64
+    ensures { λ r. ⌜ (r ≡ level) × (r < 65536) ⌝ }
+{
+    level as u64
+}
+
+// The line of the leftover bytes, if there are any.
+fn put_left(out: &mut [u8], at: usize, left: usize) -> usize
+    requires { ⌜ (left < 8) × (at + 7 ≤ length (now out)) ⌝ }
+    ensures { λ r. ⌜ Puts (now (out .entry)) (now (out .exit)) at r (leftLine left) ⌝ }
+    ensures { λ r. ⌜ r ≤ at + 7 ⌝ }
+{
+    if left == 0 {
+        return at;
+    }
+    let mut end = put_byte(out, at, b'l');
+    end = put_byte(out, end, b'e');
+    end = put_byte(out, end, b'f');
+    end = put_byte(out, end, b't');
+    end = put_after(out, end, BLANK, left as u64);
+    put_byte(out, end, LINE_FEED)
+}
+
+// The line of all pulses.
+fn put_sum(out: &mut [u8], at: usize, pulses: u64) -> usize
+    requires { ⌜ at + 25 ≤ length (now out) ⌝ }
+    ensures { λ r. ⌜ Puts (now (out .entry)) (now (out .exit)) at r (sumLine pulses) ⌝ }
+{
+    let mut end = put_byte(out, at, b's');
+    end = put_byte(out, end, b'u');
+    end = put_byte(out, end, b'm');
+    end = put_after(out, end, BLANK, pulses);
+    put_byte(out, end, LINE_FEED)
+}
+
+// A mark, and a number after it.
+fn put_after(out: &mut [u8], at: usize, mark: u8, n: u64) -> usize
+    requires { ⌜ at + length (after mark n) ≤ length (now out) ⌝ }
+    ensures { λ r. ⌜ Puts (now (out .entry)) (now (out .exit)) at r (after mark n) ⌝ }
+{
+    let end = put_byte(out, at, mark);
+    put_number(out, end, n)
+}
+
+// A number in base ten: its last digit comes after the others.
+fn put_number(out: &mut [u8], at: usize, n: u64) -> usize
+    requires { ⌜ at + length (decimal n) ≤ length (now out) ⌝ }
+    ensures { λ r. ⌜ Puts (now (out .entry)) (now (out .exit)) at r (decimal n) ⌝ }
+{
+    let digit = 48 + (n % 10) as u8;
+    if n < 10 {
+        return put_byte(out, at, digit);
+    }
+    let end = put_number(out, at, n / 10);
+    put_byte(out, end, digit)
+}
+
+fn put_byte(out: &mut [u8], at: usize, b: u8) -> usize
+    requires { ⌜ at < length (now out) ⌝ }
+    ensures { λ r. ⌜ Puts (now (out .entry)) (now (out .exit)) at r (b ∷ []) ⌝ }
+{
+    out[at] = b;
+    at + 1
+}
