@@ -1,0 +1,22 @@
+// Runs `rmcalls` on each file of data/, and writes the file's name before its text: every refusal that the program can give, leftover bytes, no
+// bytes, and more than 65,536. The expected text is not the engine's own: scripts/reference reckons it by document 01's definitions.
+use libc::STDOUT_FILENO;
+
+fn main() {
+    show(b"refusals");
+    show(b"left");
+    show(b"empty");
+    show(b"full");
+}
+
+fn show(path: &[u8]) {
+    io::write_all(STDOUT_FILENO, path);
+    io::write_all(STDOUT_FILENO, b"\n");
+    let file = os::open_read(path);
+    if file < 0 {
+        os::fail(path);
+        return;
+    }
+    console::pour(file, STDOUT_FILENO);
+    libc::close(file);
+}
