@@ -8,9 +8,8 @@ use lib.ListN.{length, getD, take, drop}
 use lib.Seq.{take-suc, take-all}
 use Rattle.calls.specs.Text.{decimal, after, afterCommas, levelText}
 use Rattle.calls.specs.Steps.{Puts}
-use Rattle.calls.proofs.Paste.{puts-none, puts-join}
+use Rattle.calls.proofs.Paste.{puts-none, puts-join, puts-as}
 use Rattle.calls.proofs.Decimal.{short}
-use Rattle.calls.proofs.Digits.{puts-as}
 
 commas-append : (xs : List ℕ) (y : ℕ) → afterCommas (xs ++ y ∷ []) ≡ afterCommas xs ++ after 44 y
 commas-append [] y = append-nil (after 44 y)

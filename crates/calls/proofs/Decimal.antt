@@ -5,7 +5,7 @@ use Prim.Native.Nat.{ℕ, zero, suc, _+_, _*_, _/_, _%_, _^_, _-_, _≤_, _<_}
 use native.Mathlib.Omega.{arith}
 use native.Mathlib.Nat.{pow-suc, lt-of-lt-of-le}
 use mathlib.Core.Bool.{Bool, true, false}
-use mathlib.Core.List.{List, [], _∷_, _++_}
+use mathlib.Core.List.{List, [], _∷_, _++_, append-assoc}
 use lib.Dec.{T, ltb, leb, leb→le}
 use lib.ListN.{length, length-append}
 use borrow.Author.Tests.{ltb-true, ltb-false, lt-ltb, le-ltb}
@@ -46,11 +46,38 @@ decimal-last n h =
     let b : n / 10 < suc (n / 10) = omega arith in
     spelled-last n n h ∙ ap (λ (ds : List ℕ). ds ++ (48 + n % 10) ∷ []) (spelled-enough n (suc (n / 10)) (n / 10) a b)
 
+-- two digits
+pub decimal-pair : (n : ℕ) → 10 ≤ n → n < 100 → decimal n ≡ (48 + n / 10) ∷ (48 + n % 10) ∷ []
+decimal-pair n h l =
+    let high : n / 10 < 10 = omega arith in
+    decimal-last n h ∙ ap (λ (ds : List ℕ). ds ++ (48 + n % 10) ∷ []) (decimal-digit (n / 10) high)
+
+-- the last two digits come after the others
+pub decimal-last-two : (n : ℕ) → 100 ≤ n → decimal n ≡ decimal (n / 100) ++ (48 + n % 100 / 10) ∷ (48 + n % 100 % 10) ∷ []
+decimal-last-two n h =
+    let ten : 10 ≤ n = omega arith in
+    let more : 10 ≤ n / 10 = omega arith in
+    let high : n / 10 / 10 ≡ n / 100 = omega arith in
+    let mid : n / 10 % 10 ≡ n % 100 / 10 = omega arith in
+    let low : n % 10 ≡ n % 100 % 10 = omega arith in
+    decimal-last n ten
+    ∙ ap (λ (ds : List ℕ). ds ++ (48 + n % 10) ∷ []) (decimal-last (n / 10) more)
+    ∙ append-assoc (decimal (n / 10 / 10)) ((48 + n / 10 % 10) ∷ []) ((48 + n % 10) ∷ [])
+    ∙ ap (λ (k : ℕ). decimal k ++ (48 + n / 10 % 10) ∷ (48 + n % 10) ∷ []) high
+    ∙ ap (λ (d : ℕ). decimal (n / 100) ++ (48 + d) ∷ (48 + n % 10) ∷ []) mid
+    ∙ ap (λ (d : ℕ). decimal (n / 100) ++ (48 + n % 100 / 10) ∷ (48 + d) ∷ []) low
+
 pub digit-length : (n : ℕ) → n < 10 → length (decimal n) ≡ 1
 digit-length n h = ap length (decimal-digit n h)
 
 pub last-length : (n : ℕ) → 10 ≤ n → length (decimal n) ≡ length (decimal (n / 10)) + 1
 last-length n h = ap length (decimal-last n h) ∙ length-append (decimal (n / 10)) ((48 + n % 10) ∷ [])
+
+pub pair-length : (n : ℕ) → 10 ≤ n → n < 100 → length (decimal n) ≡ 2
+pair-length n h l = ap length (decimal-pair n h l)
+
+pub last-two-length : (n : ℕ) → 100 ≤ n → length (decimal n) ≡ length (decimal (n / 100)) + 2
+last-two-length n h = ap length (decimal-last-two n h) ∙ length-append (decimal (n / 100)) ((48 + n % 100 / 10) ∷ (48 + n % 100 % 10) ∷ [])
 
 -- a number below 10 ^ (k + 1) has at most k + 1 digits
 pub decimal-length : (k n : ℕ) → n < 10 ^ suc k → length (decimal n) ≤ suc k

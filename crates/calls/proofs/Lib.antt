@@ -1,6 +1,5 @@
 pub mod Paste
 pub mod Decimal
-pub mod Digits
 pub mod Bytes
 pub mod Whole
 pub mod Running

@@ -1,6 +1,6 @@
 -- A text put into a buffer: its laws.
 -- Assumes nothing.
-use mathlib.Core.Path.{_≡_, refl, sym, ap, _∙_}
+use mathlib.Core.Path.{_≡_, refl, sym, ap, _∙_, subst}
 use Prim.Native.Nat.{ℕ, suc, _+_, _≤_, _<_}
 use native.Mathlib.Omega.{arith}
 use native.Mathlib.Nat.{add-zero}
@@ -67,3 +67,7 @@ puts-join {a} {b} {c} {t} {u} {at} {mid} {end} p q =
       kept = q .kept ∙ n;
       ends = omega arith;
     }
+
+-- the same put, of an equal text
+pub puts-as : {before later t u : List ℕ} {at end : ℕ} → t ≡ u → Puts before later at end t → Puts before later at end u
+puts-as {before} {later} {t} {u} {at} {end} e p = subst (Puts before later at end) e p

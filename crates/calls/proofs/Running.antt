@@ -17,8 +17,7 @@ use Rattle.calls.specs.declared.Answered.{Answered}
 use Rattle.calls.specs.Records.{recordAt, Answer, toldAnswered, stepOf}
 use Rattle.calls.specs.Text.{lineOf, lines, allPulses}
 use Rattle.calls.specs.Steps.{Puts}
-use Rattle.calls.proofs.Paste.{puts-none, puts-join}
-use Rattle.calls.proofs.Digits.{puts-as}
+use Rattle.calls.proofs.Paste.{puts-none, puts-join, puts-as}
 
 -- the first records of some bytes
 abbrev pub first : ℕ → List ℕ → List CallRecord

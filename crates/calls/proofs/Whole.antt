@@ -14,8 +14,8 @@ use Rattle.group.specs.Record.{noGroup}
 use Rattle.calls.specs.Records.{records}
 use Rattle.calls.specs.Text.{lines, allPulses, leftLine, sumLine, textOf, taken, room, printed}
 use Rattle.calls.specs.Steps.{pasted, Puts}
+use Rattle.calls.proofs.Paste.{puts-as}
 use Rattle.calls.proofs.Running.{first}
-use Rattle.calls.proofs.Digits.{puts-as}
 
 module _ (bs out : List ℕ) (size : ℕ) (e : size ≡ min 65536 (length bs)) where
   taken-length : length (taken bs) ≡ size

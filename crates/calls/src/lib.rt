@@ -10,7 +10,7 @@ use order::Outcome;
 use order::Refusal;
 ghost use mathlib.Core.Path.{_≡_};
 ghost use mathlib.Core.List.{[], _∷_, _++_};
-ghost use Prim.Native.Nat.{_+_, _*_, _≤_, _<_, min};
+ghost use Prim.Native.Nat.{_+_, _*_, _/_, _%_, _≤_, _<_, min};
 ghost use lib.ListN.{length, take, drop};
 ghost use Rattle.order.specs.Cells.{tabulate};
 ghost use Rattle.order.specs.Order.{noOrder};
@@ -356,17 +356,35 @@ fn put_after(out: &mut [u8], at: usize, mark: u8, n: u64) -> usize
     put_number(out, end, n)
 }
 
-// A number in base ten: its last digit comes after the others.
+// A number in base ten: its last two digits come after the others.
 fn put_number(out: &mut [u8], at: usize, n: u64) -> usize
     requires { ⌜ at + length (decimal n) ≤ length (now out) ⌝ }
     ensures { λ r. ⌜ Puts (now (out .entry)) (now (out .exit)) at r (decimal n) ⌝ }
 {
-    let digit = 48 + (n % 10) as u8;
     if n < 10 {
-        return put_byte(out, at, digit);
+        return put_byte(out, at, digit(n));
     }
-    let end = put_number(out, at, n / 10);
-    put_byte(out, end, digit)
+    if n < 100 {
+        return put_pair(out, at, n);
+    }
+    let end = put_number(out, at, n / 100);
+    put_pair(out, end, n % 100)
+}
+
+// Two digits.
+fn put_pair(out: &mut [u8], at: usize, n: u64) -> usize
+    requires { ⌜ (n < 100) × (at + 2 ≤ length (now out)) ⌝ }
+    ensures { λ r. ⌜ Puts (now (out .entry)) (now (out .exit)) at r ((48 + n / 10) ∷ (48 + n % 10) ∷ []) ⌝ }
+{
+    let end = put_byte(out, at, digit(n / 10));
+    put_byte(out, end, digit(n % 10))
+}
+
+fn digit(n: u64) -> u8
+    requires { ⌜ n < 10 ⌝ }
+    ensures { λ r. ⌜ r ≡ 48 + n ⌝ }
+{
+    48 + n as u8
 }
 
 fn put_byte(out: &mut [u8], at: usize, b: u8) -> usize

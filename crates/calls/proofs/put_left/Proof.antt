@@ -6,9 +6,8 @@ use Prim.Native.Nat.{ℕ, zero, suc}
 use native.Mathlib.Omega.{arith}
 use mathlib.Core.List.{[], _∷_, _++_}
 use Rattle.calls.specs.Text.{after, leftLine}
-use Rattle.calls.proofs.Paste.{puts-none, puts-join}
+use Rattle.calls.proofs.Paste.{puts-none, puts-join, puts-as}
 use Rattle.calls.proofs.Decimal.{short}
-use Rattle.calls.proofs.Digits.{puts-as}
 use Rattle.calls.proofs.put_left.Statement.{statement}
 use Rattle.calls.proofs.put_left.Tie as tie
 

@@ -9,8 +9,7 @@ use lib.ListN.{take}
 use Rattle.calls.specs.declared.Answered.{Answered}
 use Rattle.calls.specs.Records.{toldAnswered}
 use Rattle.calls.specs.Text.{levelText, numbersOf, lineOf}
-use Rattle.calls.proofs.Paste.{puts-join}
-use Rattle.calls.proofs.Digits.{puts-as}
+use Rattle.calls.proofs.Paste.{puts-join, puts-as}
 use Rattle.calls.proofs.put_line.Statement.{statement}
 use Rattle.calls.proofs.put_line.Tie as tie
 
