@@ -1,0 +1,9 @@
+pub mod Filled
+pub mod Plans
+pub mod Written
+pub mod Row
+pub mod Told
+pub mod Walking
+pub mod Arrays
+pub mod Pushes
+pub mod FillCall

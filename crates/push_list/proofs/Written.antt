@@ -1,0 +1,50 @@
+-- The write into a list and the write by value: with room enough they answer alike, and the list starts with the pushes of the write.
+-- Assumes nothing.
+use Prim.Native.Nat.{ℕ, _-_, _≤_, _<_}
+use mathlib.Core.Path.{_≡_, refl, sym, ap, _∙_}
+use mathlib.Core.List.{List, _++_}
+use lib.ListN.{length, drop}
+use lib.Seq.{take-at}
+use borrow.Author.Tests.{le-leb, lt-leb}
+use Rattle.order.specs.declared.Order.{Order}
+use Rattle.order.specs.declared.Refusal.the-variants.{ListShort}
+use Rattle.order.specs.Refusals.{numberOf, Told, answer}
+use Rattle.order.specs.Order.{listed}
+use Rattle.order.proofs.Refusals.{later-decide, check-fails, told-refused}
+use Rattle.group.specs.declared.Group.{Group}
+use Rattle.group.specs.declared.Push.{Push}
+use Rattle.group.specs.Record.{groupChecks}
+use Rattle.group.specs.PushUp.{singles, pushes}
+use Rattle.group.specs.Calls.{Program, pushed, unpushed, writeOf}
+use Rattle.push_list.specs.Calls.{intoChecks, carried, writeIntoOf, filled, listAfter}
+use Rattle.push_list.proofs.Plans.{either, answerOf, filledBy, plan-answer, plan-list, plan-written}
+
+module _ (g : Group) (o : Order) where
+  -- ---- with room enough
+
+  pub into-written : (room : ℕ) → g .n - 1 ≤ room → writeIntoOf g o room ≡ record { number = writeOf g o .number; value = carried (writeOf g o .value) }
+  into-written room l = sym (plan-answer g o room) ∙ ap answerOf (plan-written g o room (le-leb _ _ l))
+
+  pub list-written : (list : List Push) → g .n - 1 ≤ length list → listAfter g o list ≡ filled (writeOf g o .value .count) (writeOf g o .value .pushes) list
+  list-written list l = sym (plan-list g o list) ∙ ap (λ (t : Told Program). filledBy t list) (plan-written g o (length list) (le-leb _ _ l))
+
+  -- ---- refused
+
+  -- a list of fewer than n - 1 places
+  pub into-short : (room : ℕ) → numberOf (groupChecks g) ≡ 0 → room < g .n - 1 → writeIntoOf g o room ≡ record { number = 10; value = carried (unpushed g) }
+  unfolding writeIntoOf
+  into-short room d l = sym (told-refused _ _ _ ListShort (later-decide _ (groupChecks g) d ∙ check-fails _ _ (lt-leb _ _ l)))
+
+  module _ (list : List Push) where
+    pub refused-keeps : (writeIntoOf g o (length list) .number ≡ 0 → ⊥) → listAfter g o list ≡ list
+    unfolding writeIntoOf listAfter answer
+    refused-keeps f = either (numberOf (intoChecks g o (length list))) (λ e. absurd (f e)) (λ k e. rw e)
+
+    -- ---- accepted
+
+    pub program-first : writeIntoOf g o (length list) .number ≡ 0
+        → let program = pushes 1 (singles (listed o)) (g .levels) in listAfter g o list ≡ program ++ drop (length program) list
+    unfolding writeIntoOf listAfter answer pushed
+    program-first e =
+        let program = pushes 1 (singles (listed o)) (g .levels) in
+        rw (e, take-at program _ (length program) refl)

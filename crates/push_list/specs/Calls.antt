@@ -1,0 +1,67 @@
+-- Document 01, "Refusal table": the call that fills a lent list of pushes.
+--
+--   intoChecks g o room     the checks of a write into a list of so many places: 1, 2, 10, 4, 8
+--   Carried                 what the answer carries: the group, the pulses, how many pushes
+--   carried p               so much of what the answer to a write carries; the pushes are in the list
+--   toldInto a              what the answer to a write into a list says: its number, and what it carries
+--   writeIntoOf g o room    the answer
+--   filled k ps list        the first k of the pushes, then the later places of the list as they were
+--   listAfter g o list      the lent list after the call: the pushes first and the later places untouched; a refusal leaves it as it was
+--   toldLent a              what the answer to `lend` says: that of the write, and the list
+--   lendOf g o list room    the answer where the first room of twelve places are lent, all where more are wanted
+use Prim.Native.Nat.{ℕ, _-_, min}
+use mathlib.Core.Bool.{Bool}
+use mathlib.Core.List.{List, [], _∷_, _++_}
+use lib.Dec.{leb}
+use lib.ListN.{length, take, drop}
+use Rattle.order.specs.declared.Order.{Order}
+use Rattle.order.specs.declared.Refusal.{Refusal}
+use Rattle.order.specs.declared.Refusal.the-variants.{ListShort, NoOrder, Worn}
+use Rattle.order.specs.Refusals.{outcomeNumber, numberOf, ifDone, Told, answer}
+use Rattle.order.specs.Order.{listed, isOrderOf}
+use Rattle.group.specs.declared.Group.{Group}
+use Rattle.group.specs.declared.Push.{Push}
+use Rattle.group.specs.Record.{groupChecks}
+use Rattle.group.specs.Calls.{Program, fits, pushed, unpushed}
+use Rattle.push_list.specs.declared.WrittenInto.{WrittenInto}
+use Rattle.push_list.specs.declared.Lent.{Lent}
+
+-- ---- the answer
+
+abbrev pub intoChecks : Group → Order → ℕ → List (Bool × Refusal)
+intoChecks g o room =
+    groupChecks g ++ (leb (g .n - 1) room, ListShort) ∷ (isOrderOf (g .n) o, NoOrder) ∷ (fits g (listed o), Worn) ∷ []
+
+pub record Carried : Type 0 where
+  pub group : Group
+  pub pulses : ℕ
+  pub count : ℕ
+
+abbrev pub carried : Program → Carried
+carried p = record { group = p .group; pulses = p .pulses; count = p .count }
+
+abbrev pub toldInto : WrittenInto → Told Carried
+toldInto a = record { number = outcomeNumber (a .outcome); value = record { group = a .group; pulses = a .pulses; count = a .count } }
+
+unfoldable pub writeIntoOf : Group → Order → ℕ → Told Carried
+writeIntoOf g o room = answer (intoChecks g o room) (carried (pushed g (listed o))) (carried (unpushed g))
+
+-- ---- the list
+
+abbrev pub filled : ℕ → List Push → List Push → List Push
+filled k ps list = take k ps ++ drop k list
+
+unfoldable pub listAfter : Group → Order → List Push → List Push
+listAfter g o list =
+    let p = pushed g (listed o) in
+    ifDone (numberOf (intoChecks g o (length list))) (filled (p .count) (p .pushes) list) list
+
+-- ---- a list held by value
+
+abbrev pub toldLent : Lent → Told Carried × List Push
+toldLent a = (toldInto (a .answer), a .list)
+
+unfoldable pub lendOf : Group → Order → List Push → ℕ → Told Carried × List Push
+lendOf g o list room =
+    let places = min room 12 in
+    (writeIntoOf g o places, listAfter g o (take places list) ++ drop places list)

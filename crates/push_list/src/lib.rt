@@ -1,0 +1,111 @@
+// The lent list of pushes (document 01: "The call that fills a lent list of pushes writes the pushes first and leaves the later places
+// untouched"). What is written there is decided by value, in `decide`; only `fill`, `write_into` and `lend` have a slice of pushes, and
+// these three are proved by hand. Each public function takes any record and has one equation for its answer and one for its list. Proved
+// besides: with room enough the answer is that of `group::write`, and the list starts with its pushes (proofs/Written).
+use group::Group;
+use group::Push;
+use group::Written;
+use order::Order;
+use order::Outcome;
+use order::Refusal;
+ghost use mathlib.Core.Path.{_≡_};
+ghost use Prim.Native.Nat.{_≤_, min};
+ghost use lib.ListN.{length};
+ghost use Rattle.group.specs.Calls.{toldWritten};
+ghost use Rattle.push_list.specs.Calls.{filled, toldInto, writeIntoOf, listAfter, toldLent, lendOf};
+ghost use Rattle.push_list.specs.Steps.{toldPlan, planOf};
+
+// The answer of a write into a lent list: the pushes are the first count places of the list, from low to high.
+pub struct WrittenInto {
+    pub outcome: Outcome,
+    pub group: Group,
+    pub pulses: u32,
+    pub count: usize,
+}
+
+// The answer of `lend`, and the list that was lent.
+pub struct Lent {
+    pub answer: WrittenInto,
+    pub list: [Push; 12],
+}
+
+// What a write into a list decides before the list is touched: its answer, and the pushes, whose count is the answer's.
+struct Plan {
+    answer: WrittenInto,
+    pushes: [Push; 11],
+}
+
+// Minimal push-up to an order, with its pushes in a lent list. A refused write has none, and leaves the list as it was.
+pub fn write_into(g: Group, target: Order, list: &mut [Push]) -> WrittenInto
+    ensures { λ r. ⌜ (toldInto r ≡ writeIntoOf g target (length (now (list .entry)))) × (now (list .exit) ≡ listAfter g target (now (list .entry))) ⌝ }
+{
+    let plan = decide(g, target, list.len());
+    let pushes = plan.pushes;
+    let count = plan.answer.count;
+    fill(list, pushes, count);
+    plan.answer
+}
+
+// All of the call but the list: what it answers and pushes where the list has so many places. 10 is checked after 2 and before 4.
+fn decide(g: Group, target: Order, room: usize) -> Plan
+    ensures { λ r. ⌜ toldPlan r ≡ planOf g target room ⌝ }
+{
+    let checked = group::check(g);
+    let Outcome::Done = checked else {
+        return plan_of(group::unwritten(checked, g));
+    };
+    if room < g.n - 1 {
+        return plan_of(group::unwritten(Outcome::Refused(Refusal::ListShort), g));
+    }
+    plan_of(group::write(g, target))
+}
+
+// The answer of a write, with its pushes beside it.
+fn plan_of(w: Written) -> Plan
+    ensures { λ r. ⌜ toldPlan r ≡ toldWritten w ⌝ }
+{
+    let outcome = w.outcome;
+    let group = w.group;
+    let pushes = w.pushes;
+    Plan {
+        answer: WrittenInto {
+            outcome,
+            group,
+            pulses: w.pulses,
+            count: w.count,
+        },
+        pushes,
+    }
+}
+
+// Copies the first count pushes to the front of the list.
+fn fill(list: &mut [Push], pushes: [Push; 11], count: usize)
+    requires { ⌜ (count ≤ 11) × (count ≤ length (now list)) ⌝ }
+    ensures { λ _. ⌜ now (list .exit) ≡ filled count pushes (now (list .entry)) ⌝ }
+{
+    let mut i = 0;
+    while i < count {
+        list[i] = pushes[i];
+        i += 1;
+    }
+}
+
+// The same into the first room places of a list held by value, all twelve where more are wanted: its caller holds no slice of pushes, and
+// so is proved without a walk by hand.
+pub fn lend(g: Group, target: Order, list: [Push; 12], room: usize) -> Lent
+    ensures { λ r. ⌜ toldLent r ≡ lendOf g target list room ⌝ }
+{
+    let places = at_most_twelve(room);
+    let mut lent = list;
+    let answer = write_into(g, target, &mut lent[..places]);
+    Lent { answer, list: lent }
+}
+
+fn at_most_twelve(room: usize) -> usize
+    ensures { λ r. ⌜ r ≡ min room 12 ⌝ }
+{
+    if room < 12 {
+        return room;
+    }
+    12
+}
