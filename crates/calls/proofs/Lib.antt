@@ -1,6 +1,9 @@
 pub mod Paste
 pub mod Decimal
 pub mod Bytes
+pub mod Course
+pub mod Told
+pub mod Example
 pub mod Whole
 pub mod Running
 pub mod Commas

@@ -7,11 +7,14 @@
 --   usesValue k         the kinds that have a value: 0 open, 1 store, 3 leak, 4 wear
 --   unusedZero r        the two zero bytes, and the fields that the kind does not use, are 0
 --   requests c v        what a record of each kind asks for: 0 open, 1 store, 2 scrub, 3 leak, 4 wear, 5 erase, 6 read
---   requestOf r         what a record asks for: open, a call of the machine, or nothing that is known
---   Answer              what an answer carries: the group after the call, the symbol, the pulses
---   toldAnswered a      what an answer says: its number, and what it carries
---   keptBy g            an answer with the group and nothing else
---   stepOf g r          the answer to a record: a bad one is refused 12, a refused open keeps the group it had
+--   requestOf r         what a record asks for; a bad one has an unknown kind, or a field that should be 0 and is not
+--   Answer              what the program keeps of an answer: the group after the call, the symbol (0 but for store, scrub and read), the pulses
+--   toldAnswered a      what an answer says: its number, and what is kept
+--   groupAlone g        the group and nothing else
+--   afterApply t        what is kept of an answer of the machine
+--   afterOpen g t       what is kept of the answer to an open: a refused one keeps the group it had
+--   stepBy g q          the answer to a request: a bad record is refused 12
+--   stepOf g r          the answer to a record, where the group is g
 use Prim.Native.Nat.{ℕ, zero, suc, _+_, _*_, _/_}
 use mathlib.Core.Bool.{Bool, cond, _&&_, _||_}
 use mathlib.Core.List.{List, [], _∷_}
@@ -78,10 +81,9 @@ toldAnswered a =
       value = record { group = a .group; symbol = a .symbol; pulses = a .pulses };
     }
 
-abbrev pub keptBy : Group → Answer
-keptBy g = record { group = g; symbol = 0; pulses = 0 }
+abbrev pub groupAlone : Group → Answer
+groupAlone g = record { group = g; symbol = 0; pulses = 0 }
 
--- what a record's line shows of an answer of the machine
 abbrev pub afterApply : Told Step → Told Answer
 afterApply t =
     record {
@@ -90,10 +92,10 @@ afterApply t =
     }
 
 abbrev pub afterOpen : Group → Told Group → Told Answer
-afterOpen g t = record { number = t .number; value = keptBy (ifDone (t .number) (t .value) g) }
+afterOpen g t = record { number = t .number; value = groupAlone (ifDone (t .number) (t .value) g) }
 
 abbrev pub stepBy : Group → Request → Told Answer
-stepBy g Bad = record { number = refusalNumber BadRecord; value = keptBy g }
+stepBy g Bad = record { number = refusalNumber BadRecord; value = groupAlone g }
 stepBy g (Open n) = afterOpen g (openOf n)
 stepBy g (Apply kind) = afterApply (applyOf g (record { kind = kind; target = noOrder }))
 

@@ -8,13 +8,13 @@
 --   numbersOf           position, kind, refusal, symbol and pulses, with single blanks between them
 --   lineOf k kind a     a record's line: these numbers, and the levels of cells 1 to n after the call
 --   lines k g rs        the lines of records from position k on, the first of which is handed the group g
---   allPulses g rs      the pulses of these records, added up
+--   allPulses g rs      the pulses of records, added up, the first of which is handed the group g
 --   leftLine k          `left` and the count of leftover bytes, if any
 --   sumLine p           `sum` and all pulses
 --   textOf bs           all that is printed for the bytes of an input
 --   taken bs            the bytes of an input that are read: 65,536 at most
---   room k              the length that a lent buffer must have for the text of k bytes
---   printed bs out      what is put first into a lent buffer: the text, or nothing where the buffer is too short
+--   room k              the length that a lent buffer must have for what is printed for k bytes of input
+--   printed bs out      what is put at the start of a lent buffer: the text, or nothing where the buffer is too short
 use Prim.Native.Nat.{ℕ, zero, suc, _+_, _*_, _/_, _%_}
 use mathlib.Core.Bool.{cond}
 use mathlib.Core.List.{List, [], _∷_, _++_}
@@ -35,7 +35,7 @@ spelled (suc k) n = cond (ltb n 10) ((48 + n) ∷ []) (spelled k (n / 10) ++ (48
 unfoldable pub decimal : ℕ → List ℕ
 decimal n = spelled (suc n) n
 
--- ---- lines: 32 is a blank, 44 a comma, 45 `-`, 10 a line feed
+-- ---- lines: 48 is the digit 0, 32 a blank, 44 a comma, 45 `-`, 10 a line feed
 
 abbrev pub after : ℕ → ℕ → List ℕ
 after mark n = mark ∷ decimal n

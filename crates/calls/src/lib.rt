@@ -1,5 +1,6 @@
-// The call records of the program `rmcalls` (document 01, "Calls outside the list") over byte slices: `step`, the answer to one record, and
-// `run`, a whole input turned into the text that the program prints. Both take anything and have one equation with a definition of specs/.
+// The call records of the program `rmcalls` (document 01, "Calls outside the list"): `step`, the answer to one record, with one equation, and
+// `run`, a whole input turned into the text that the program prints, with an equation for its answer and one for the lent buffer. Proved
+// besides: the printed example (proofs/Example), and that the records after an accepted open are a list of calls of demand 3 (proofs/Course).
 use engine::Applied;
 use engine::Call;
 use engine::Kind;
@@ -40,7 +41,7 @@ pub struct CallRecord {
     pub value: u32,
 }
 
-// What a record's line shows of the answer to it.
+// What the program keeps of an answer: the verdict and the pushes are in no line.
 pub struct Answered {
     pub outcome: Outcome,
     pub group: Group,
@@ -56,7 +57,7 @@ pub enum Request {
 }
 
 // Where the lines of the records end, and the pulses of all of them.
-struct Printed {
+struct Lines {
     end: usize,
     pulses: u64,
 }
@@ -78,8 +79,8 @@ pub fn step(g: Group, r: CallRecord) -> Answered
     }
 }
 
-// Puts what `rmcalls` prints for an input at the start of out, and answers how many bytes that are. Where out is shorter than
-// 16 bytes for each byte of the input, and 64, it stays as it was, and the answer is 0.
+// Puts what `rmcalls` prints for an input at the start of out, and answers how many bytes that is. Where out is shorter than
+// 16 bytes for each byte that is read, and 64, it stays as it was, and the answer is 0: a text is never empty.
 pub fn run(input: &[u8], out: &mut [u8]) -> usize
     ensures { λ r. ⌜ r ≡ length (printed (now (input .entry)) (now (out .entry))) ⌝ }
     ensures { λ r. ⌜ now (out .exit) ≡ printed (now (input .entry)) (now (out .entry)) ++ drop r (now (out .entry)) ⌝ }
@@ -88,9 +89,9 @@ pub fn run(input: &[u8], out: &mut [u8]) -> usize
     if out.len() < 16 * size + 64 {
         return 0;
     }
-    let printed = put_lines(&input[..size], size / 8, out);
-    let left = put_left(out, printed.end, size % 8);
-    put_sum(out, left, printed.pulses)
+    let records = put_lines(&input[..size], size / 8, out);
+    let left = put_left(out, records.end, size % 8);
+    put_sum(out, left, records.pulses)
 }
 
 // How many of the bytes are read.
@@ -195,18 +196,18 @@ fn record_at(input: &[u8], i: usize) -> CallRecord
     ensures { λ r. ⌜ r ≡ recordAt (now (input .entry)) i ⌝ }
 {
     let at = 8 * i;
-    let low = pair(input, at + 4) as u32;
-    let high = pair(input, at + 6) as u32;
+    let low = two_bytes(input, at + 4) as u32;
+    let high = two_bytes(input, at + 6) as u32;
     CallRecord {
         kind: input[at],
         cell: Cell(input[at + 1]),
-        reserved: pair(input, at + 2),
+        reserved: two_bytes(input, at + 2),
         value: low + 65536 * high,
     }
 }
 
 // The number in two bytes.
-fn pair(input: &[u8], at: usize) -> u16
+fn two_bytes(input: &[u8], at: usize) -> u16
     requires { ⌜ at + 2 ≤ length (now input) ⌝ }
     ensures { λ r. ⌜ r ≡ lowFirst 2 at (now (input .entry)) ⌝ }
 {
@@ -220,7 +221,7 @@ fn wide(b: u8) -> u16
 }
 
 // The lines of the first records of an input, at the start of out. The first record is handed the all-zero record.
-fn put_lines(input: &[u8], count: usize, out: &mut [u8]) -> Printed
+fn put_lines(input: &[u8], count: usize, out: &mut [u8]) -> Lines
     requires { ⌜ (count ≤ 8192) × (8 * count ≤ length (now input)) ⌝ }
     requires { ⌜ 128 * count ≤ length (now out) ⌝ }
     ensures { λ r. ⌜ Puts (now (out .entry)) (now (out .exit)) 0 (r .end) (lines 1 noGroup (tabulate count (recordAt (now (input .entry))))) ⌝ }
@@ -245,7 +246,7 @@ fn put_lines(input: &[u8], count: usize, out: &mut [u8]) -> Printed
         let next = a.group;
         g = next;
     }
-    Printed { end, pulses }
+    Lines { end, pulses }
 }
 
 // A record's line.

@@ -1,7 +1,7 @@
 use borrow.Author.Needs.{needs}
 use native.Mathlib.Omega.{arith}
-use Rattle.calls.proofs.pair.Statement.{statement}
-use Rattle.calls.proofs.pair.Tie as tie
+use Rattle.calls.proofs.two_bytes.Statement.{statement}
+use Rattle.calls.proofs.two_bytes.Tie as tie
 
 -- src/lib.rt:206:10
 shared-slice-read-wide : tie.Need-shared-slice-read-wide
@@ -37,8 +37,8 @@ returns c =
     let s = c .before .before .before .before .before in
     omega (arith, c .before .before .wide .ensures .0, c .wide2 .ensures .0)
 
-pub pair-spec : {M : Type 1} → statement M
-pair-spec =
+pub two-bytes-spec : {M : Type 1} → statement M
+two-bytes-spec =
     tie.close
     (tie.spec
     shared-slice-read-wide
