@@ -1,6 +1,7 @@
 pub mod Paste
 pub mod Decimal
 pub mod Bytes
+pub mod Room
 pub mod Course
 pub mod Told
 pub mod Example

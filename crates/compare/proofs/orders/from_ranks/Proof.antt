@@ -1,0 +1,29 @@
+-- `compare::orders::from_ranks` is safe and ends. The measure is what is left of the range.
+-- Assumes nothing.
+use Prim.Native.Nat.{_-_}
+use borrow.Author.Needs.{needs}
+use Rattle.compare.proofs.orders.from_ranks.Statement.{statement}
+use Rattle.compare.proofs.orders.from_ranks.Tie as tie
+
+abbrev Inv-loop : tie.InvT-loop
+Inv-loop o held₀ i₀ held i = Unit {0}
+
+abbrev μ-loop : tie.MeasureT-loop
+μ-loop o held₀ i₀ held i = 12 - i
+
+pub from-ranks-spec : {M : Type 1} → statement M
+from-ranks-spec =
+    tie.close
+    (tie.spec
+    Inv-loop
+    μ-loop
+    (λ c. search needs)
+    (λ c. search needs)
+    (λ c. search needs)
+    (λ c. search needs)
+    (λ c. search needs)
+    (λ c. search needs)
+    (λ c κs. search needs)
+    (λ c κs. search needs)
+    (λ c κs. search needs)
+    (λ c. search needs))

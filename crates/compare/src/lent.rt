@@ -1,0 +1,82 @@
+// The write that fills a lent list of pushes.
+use crate::same;
+use crate::sample;
+use crate::tally::Tally;
+use crate::tally::none;
+use crate::tally::noted;
+use group::Group;
+use group::Push;
+use group::Written;
+use naive::machine::Answer;
+use order::Cell;
+use order::Order;
+
+// What stands in a place of the list before the call: no push is like it, so a place that is touched shows.
+fn mark() -> Push {
+    Push {
+        cell: Cell(99),
+        level: 9999,
+    }
+}
+
+// What must stand in place i after the call.
+fn due(b: Answer, i: usize) -> Push {
+    let pushes = b.pushes;
+    if i < 11 {
+        if i < b.count {
+            return pushes[i];
+        }
+    }
+    mark()
+}
+
+fn same_push(p: Push, q: Push) -> bool {
+    if p.cell.0 == q.cell.0 {
+        return p.level == q.level;
+    }
+    false
+}
+
+fn same_list(list: [Push; 12], b: Answer) -> bool {
+    let mut same = true;
+    for i in 0..12 {
+        if !same_push(list[i], due(b, i)) {
+            same = false;
+        }
+    }
+    same
+}
+
+// The answer and the list where so many of twelve places are lent.
+fn lend(g: Group, target: Order, room: usize) -> bool {
+    let m = mark();
+    let lent = push_list::lend(g, target, [m; 12], room);
+    let b = naive::machine::write_into(g, target, room);
+    let answer = lent.answer;
+    let list = lent.list;
+    let outcome = answer.outcome;
+    let group = answer.group;
+    let pushes = b.pushes;
+    let written = Written {
+        outcome,
+        group,
+        pulses: answer.pulses,
+        count: answer.count,
+        pushes,
+    };
+    if same::written(written, b) {
+        return same_list(list, b);
+    }
+    false
+}
+
+// Sampled records of n cells, each as it is and forged, with lists of 0 to 13 places.
+pub fn lists(n: usize) -> Tally {
+    let mut t = none();
+    for s in 0..1000 {
+        let target = sample::target(n, s);
+        t = noted(t, lend(sample::group(n, s), target, s % 14));
+        t = noted(t, lend(sample::forged(n, s), target, s % 14));
+    }
+    t
+}

@@ -1,0 +1,46 @@
+// The engine for programs in C and Rust (`rt staticlib exports`): the interpreter of call records, the room that its text needs, and the
+// number of codewords. Each function takes anything, and equations with the definitions of `calls` and `code` determine what it answers and
+// leaves. Proved besides: a buffer of the length that `rm_room` answers takes the whole text (calls, proofs/Room).
+use code::WordsAnswer;
+ghost use mathlib.Core.Path.{_≡_};
+ghost use mathlib.Core.List.{_++_};
+ghost use Prim.Native.Nat.{min};
+ghost use lib.ListN.{length, drop};
+ghost use Rattle.code.specs.Calls.{wordsOf};
+ghost use Rattle.calls.specs.Text.{room, printed};
+
+// The most bytes of an input that are read.
+const MOST: usize = 65536;
+
+// Puts what `rmcalls` prints for an input at the start of out, and answers how many bytes that is. Where out is shorter than
+// `rm_room` of the input's length, it stays as it was, and the answer is 0.
+#[no_mangle]
+pub extern "C" fn rm_run(input: &[u8], out: &mut [u8]) -> usize
+    ensures { λ r. ⌜ r ≡ length (printed (now (input .entry)) (now (out .entry))) ⌝ }
+    ensures { λ r. ⌜ now (out .exit) ≡ printed (now (input .entry)) (now (out .entry)) ++ drop r (now (out .entry)) ⌝ }
+{
+    calls::run(input, out)
+}
+
+// The length that a buffer must have for the text of an input of a size, of which 65,536 bytes at most are read.
+#[no_mangle]
+pub extern "C" fn rm_room(size: usize) -> usize
+    ensures { λ r. ⌜ r ≡ room (min 65536 size) ⌝ }
+{
+    if MOST < size {
+        return 16 * MOST + 64;
+    }
+    16 * size + 64
+}
+
+// K(n), the number of codewords of n cells; 0 where n is no size.
+#[no_mangle]
+pub extern "C" fn rm_words(n: usize) -> u32
+    ensures { λ r. ⌜ r ≡ wordsOf n .value ⌝ }
+{
+    let answer = code::words(n);
+    let WordsAnswer::Words(words) = answer else {
+        return 0;
+    };
+    words
+}

@@ -1,0 +1,225 @@
+// The one-error code by listing every word (document 01, "The one-error code").
+ghost use Prim.Native.Nat.{_<_};
+use crate::numbers::is_size;
+use crate::numbers::product;
+use crate::numbers::wide;
+use crate::orders::OrderFound;
+use crate::orders::cells_of;
+use crate::orders::check_order;
+use crate::orders::coordinates_of;
+use crate::orders::no_order;
+use crate::orders::placed;
+use crate::orders::places;
+use crate::orders::shifted;
+use crate::orders::with_cells;
+use crate::pairs::NumberFound;
+use crate::pairs::is_near;
+use order::Order;
+
+// A list of coordinates on the way through all of them in dictionary order, coordinate 1 first: coordinate i at index i.
+pub struct Listing {
+    pub n: usize,
+    pub values: [u8; 12],
+    pub ended: bool,
+}
+
+// What a reading finds. The place is 0 where nothing is put right.
+pub struct Reading {
+    pub number: u8,
+    pub symbol: u32,
+    pub place: u8,
+    pub word: Order,
+}
+
+// There are no more lists than 12 factorial.
+const LISTS: u32 = 479001600;
+
+// 2n - 1, which divides the weighted sum of a word.
+fn divisor(n: usize) -> u32
+    ensures { λ r. ⌜ 0 < r ⌝ }
+{
+    if n < 1 {
+        return 1;
+    }
+    if 12 < n {
+        return 1;
+    }
+    (2 * n - 1) as u32
+}
+
+// The first list, all zeros, which is a word.
+pub fn first(n: usize) -> Listing {
+    Listing {
+        n,
+        values: [0; 12],
+        ended: !is_size(n),
+    }
+}
+
+// The list after this one. The last coordinate turns fastest; one that is at its largest goes back to 0 and the one before it turns.
+pub fn next(l: Listing) -> Listing {
+    let mut m = l;
+    for k in 0..11 {
+        let i = 11 - k;
+        if i < l.n {
+            let v = m.values[i];
+            if wide(v) < i {
+                m.values[i] = std::num::wrapping_add_u8(v, 1);
+                return m;
+            }
+            m.values[i] = 0;
+        }
+    }
+    m.ended = true;
+    m
+}
+
+// The sum over i of i times coordinate i.
+pub fn weight(values: [u8; 12]) -> u32 {
+    let mut sum: u32 = 0;
+    for i in 0..12 {
+        sum = std::num::wrapping_add_u32(sum, product(i as u8, values[i]));
+    }
+    sum
+}
+
+// Whether coordinates of n cells are those of a word.
+pub fn is_word(values: [u8; 12], n: usize) -> bool {
+    weight(values) % divisor(n) == 0
+}
+
+// The next word in the list, or its end.
+pub fn next_word(l: Listing) -> Listing {
+    let mut m = l;
+    for _ in 0..LISTS {
+        m = next(m);
+        if m.ended {
+            return m;
+        }
+        let values = m.values;
+        if is_word(values, m.n) {
+            return m;
+        }
+    }
+    m
+}
+
+// The cells of the word that a listing stands at.
+pub fn word_cells(l: Listing) -> [u8; 12] {
+    let values = l.values;
+    placed(values, l.n)
+}
+
+// K(n), by listing.
+pub fn words(n: usize) -> NumberFound {
+    if !is_size(n) {
+        return NumberFound {
+            number: 1,
+            value: 0,
+        };
+    }
+    let mut l = first(n);
+    for count in 0..LISTS {
+        if l.ended {
+            return NumberFound {
+                number: 0,
+                value: count,
+            };
+        }
+        l = next_word(l);
+    }
+    NumberFound {
+        number: 0,
+        value: LISTS,
+    }
+}
+
+// The word of a number, by listing as far.
+pub fn codeword(n: usize, symbol: u32) -> OrderFound {
+    if !is_size(n) {
+        return no_order(1);
+    }
+    let mut l = first(n);
+    for _ in 0..symbol {
+        if l.ended {
+            return no_order(5);
+        }
+        l = next_word(l);
+    }
+    if l.ended {
+        return no_order(5);
+    }
+    OrderFound {
+        number: 0,
+        order: with_cells(word_cells(l), n),
+    }
+}
+
+// Whether the weighted sum of an order's coordinates is divisible by 2n - 1: 1 or 0.
+pub fn is_codeword(o: Order) -> NumberFound {
+    let found = coordinates_of(o);
+    if found.number != 0 {
+        return NumberFound {
+            number: found.number,
+            value: 0,
+        };
+    }
+    let values = shifted(found.coordinates);
+    let mut value: u32 = 0;
+    if is_word(values, o.len) {
+        value = 1;
+    }
+    NumberFound { number: 0, value }
+}
+
+// The first place, from 1, at which two lists of cells differ; 0 where they are equal.
+pub fn first_difference(a: [u8; 12], b: [u8; 12]) -> u8 {
+    for i in 0..12 {
+        if a[i] != b[i] {
+            return (i + 1) as u8;
+        }
+    }
+    0
+}
+
+pub fn no_reading(number: u8) -> Reading {
+    Reading {
+        number,
+        symbol: 0,
+        place: 0,
+        word: with_cells([0; 12], 0),
+    }
+}
+
+// The word at distance 0 or 1, looked for among all of them.
+pub fn decode(o: Order) -> Reading {
+    let number = check_order(o);
+    if number != 0 {
+        return no_reading(number);
+    }
+    let n = o.len;
+    let cells = cells_of(o);
+    let ranks = places(cells, n);
+    let mut l = first(n);
+    for symbol in 0..LISTS {
+        if l.ended {
+            return no_reading(7);
+        }
+        let word = word_cells(l);
+        if is_near(ranks, places(word, n), n) {
+            return found(cells, word, n, symbol);
+        }
+        l = next_word(l);
+    }
+    no_reading(7)
+}
+
+// What a reading says of cells that are near a word.
+pub fn found(cells: [u8; 12], word: [u8; 12], n: usize, symbol: u32) -> Reading {
+    Reading {
+        number: 0,
+        symbol,
+        place: first_difference(cells, word),
+        word: with_cells(word, n),
+    }
+}
