@@ -1,0 +1,39 @@
+//! The engine's static library, behind safe functions. `rm.h` says what each of its functions
+//! promises; nothing checks the declarations here against their source.
+
+use std::num::NonZero;
+
+unsafe extern "C" {
+    fn rm_run(input: *const u8, input_len: usize, out: *mut u8, out_len: usize) -> usize;
+    // these take any number
+    safe fn rm_room(size: usize) -> usize;
+    safe fn rm_words(n: usize) -> u32;
+}
+
+/// The whole text that `rmcalls` prints for `input`.
+pub fn run(input: &[u8]) -> Vec<u8> {
+    let mut out = vec![0; room(input.len())];
+    let size = run_into(input, &mut out).expect("a buffer of that length is long enough");
+    out.truncate(size.get());
+    out
+}
+
+/// Puts that text at the start of `out` and leaves the rest; its size. `None`, and `out` as it was,
+/// where `out` is shorter than [`room`] of the input's length.
+pub fn run_into(input: &[u8], out: &mut [u8]) -> Option<NonZero<usize>> {
+    // SAFETY: each pointer is that of a slice, not null, with the slice's length after it, and both
+    // slices live until the call returns. They do not overlap, since `out` is borrowed mutably. The
+    // function has no other precondition, writes to `out` alone, keeps no pointer, returns always.
+    let size = unsafe { rm_run(input.as_ptr(), input.len(), out.as_mut_ptr(), out.len()) };
+    NonZero::new(size)
+}
+
+/// The length that a buffer must have for the text of an input of `size` bytes.
+pub fn room(size: usize) -> usize {
+    rm_room(size)
+}
+
+/// K(n), the number of codewords of n cells; `None` where n is not 3 to 12.
+pub fn words(n: usize) -> Option<u32> {
+    Some(rm_words(n)).filter(|&words| words != 0)
+}
