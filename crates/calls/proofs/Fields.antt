@@ -21,6 +21,10 @@ with-value true v = refl
 with-value false v = refl
 
 module _ (r : CallRecord) where
+  pub reserved-filled : eqb (r .reserved) 0 ≡ false → false ≡ unusedZero r
+  unfolding unusedZero
+  reserved-filled z = rw z refl
+
   pub zero-celled : eqb (r .reserved) 0 ≡ true → usesCell (r .kind) ≡ true → true ≡ unusedZero r
   unfolding unusedZero tests
   zero-celled z u = rw (z, u) (with-cell (eqb (r .cell .0) 0) (leb (r .kind) 1) (eqb (r .value) 0))

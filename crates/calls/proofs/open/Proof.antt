@@ -1,10 +1,12 @@
 -- `calls::open` meets its contract.
 -- Assumes nothing.
 use borrow.Author.Needs.{needs}
-use mathlib.Core.Path.{_≡_, refl, sym}
+use mathlib.Core.Path.{_≡_, refl, sym, ap}
+use Rattle.order.specs.Refusals.{refusalNumber}
 use Rattle.order.proofs.Refusals.{refused-zeros}
 use Rattle.group.specs.declared.Group.{Group}
 use Rattle.group.specs.Calls.{toldChanged, openOf}
+use Rattle.calls.specs.Records.{groupAlone}
 use Rattle.calls.proofs.open.Statement.{statement}
 use Rattle.calls.proofs.open.Tie as tie
 
@@ -28,7 +30,10 @@ returns-2 c =
     let o = c .before .before in
     let e : toldChanged (o .«open» .result) ≡ openOf (o .before .args .n) = o .«open» .ensures in
     let told = c .enum-told2 .given in
-    rw (sym e, told .1, refused-zeros {A = Group} (told .0 .0) (o .«open» .result .group) (o .before .args .g)) refl
+    rw (sym e, told .1)
+    (ap
+    (λ (h : Group). record { number = refusalNumber (told .0 .0); value = groupAlone h })
+    (sym (refused-zeros {A = Group} (told .0 .0) (o .«open» .result .group) (o .before .args .g))))
 
 pub open-spec : {M : Type 1} → statement M
 open-spec = tie.close (tie.spec open-requires enum-told enum-told-2 returns returns-2)

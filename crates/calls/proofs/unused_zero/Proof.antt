@@ -1,16 +1,14 @@
 -- `calls::unused_zero` meets its contract.
 -- Assumes nothing.
 use borrow.Author.Needs.{needs}
-use mathlib.Core.Path.{refl, sym, _∙_}
+use mathlib.Core.Path.{sym, _∙_}
 use borrow.Author.Tests.{eq-eqb, ne-eqb, le-leb, lt-leb}
-use Rattle.calls.specs.Records.{unusedZero}
-use Rattle.calls.proofs.Fields.{zero-celled, cell-filled, zero-valued, value-alone}
+use Rattle.calls.proofs.Fields.{reserved-filled, zero-celled, cell-filled, zero-valued, value-alone}
 use Rattle.calls.proofs.unused_zero.Statement.{statement}
 use Rattle.calls.proofs.unused_zero.Tie as tie
 
 returns : tie.Need-returns
-unfolding unusedZero
-returns c = rw (ne-eqb _ _ (c .if1 .taken)) refl
+returns c = reserved-filled _ (ne-eqb _ _ (c .if1 .taken))
 
 uses-cell-requires : tie.Need-uses-cell-requires
 uses-cell-requires c κs = search needs
