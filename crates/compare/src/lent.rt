@@ -30,17 +30,10 @@ fn due(b: Answer, i: usize) -> Push {
     mark()
 }
 
-fn same_push(p: Push, q: Push) -> bool {
-    if p.cell.0 == q.cell.0 {
-        return p.level == q.level;
-    }
-    false
-}
-
 fn same_list(list: [Push; 12], b: Answer) -> bool {
     let mut same = true;
     for i in 0..12 {
-        if !same_push(list[i], due(b, i)) {
+        if !same::push(list[i], due(b, i)) {
             same = false;
         }
     }
@@ -56,6 +49,7 @@ fn lend(g: Group, target: Order, room: usize) -> bool {
     let list = lent.list;
     let outcome = answer.outcome;
     let group = answer.group;
+    // the pushes are in the list, and compared there
     let pushes = b.pushes;
     let written = Written {
         outcome,
@@ -70,13 +64,24 @@ fn lend(g: Group, target: Order, room: usize) -> bool {
     false
 }
 
-// Sampled records of n cells, each as it is and forged, with lists of 0 to 13 places.
+// How many places are lent: 0 to 13, or more than there are.
+fn room(s: usize) -> usize {
+    let places = s % 15;
+    if places < 14 {
+        places
+    } else {
+        18446744073709551615
+    }
+}
+
+// Sampled records of n cells, each as it is and forged.
 pub fn lists(n: usize) -> Tally {
     let mut t = none();
     for s in 0..1000 {
         let target = sample::target(n, s);
-        t = noted(t, lend(sample::group(n, s), target, s % 14));
-        t = noted(t, lend(sample::forged(n, s), target, s % 14));
+        let places = room(s);
+        t = noted(t, lend(sample::group(n, s), target, places));
+        t = noted(t, lend(sample::forged(n, s), target, places));
     }
     t
 }

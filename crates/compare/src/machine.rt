@@ -119,6 +119,22 @@ pub fn records(n: usize) -> Tally {
     t
 }
 
+// Six comparisons of a record.
+fn each_plain(t: Tally, g: Group, target: Order, s: usize) -> Tally {
+    noted(each_change(t, g, s), write(g, target))
+}
+
+// The same for the calls that list no words.
+pub fn changes(n: usize) -> Tally {
+    let mut t = none();
+    for s in 0..1000 {
+        let target = sample::target(n, s);
+        t = each_plain(t, sample::group(n, s), target, s);
+        t = each_plain(t, sample::forged(n, s), target, s);
+    }
+    t
+}
+
 fn after(g: Group, call: Call) -> Group {
     let a = engine::apply(g, call);
     a.group

@@ -35,7 +35,7 @@ fn every_pair(r: Report) -> Report {
     next
 }
 
-// Lists that are an order or none: 1,250 of each length, 16 comparisons each.
+// Lists that are an order or none: 1,250 of each length, 16 comparisons each. The last one, 16 here, has length 2^64 - 1.
 fn every_list(r: Report) -> Report {
     let mut next = r;
     for len in 0..17 {
@@ -73,6 +73,15 @@ fn every_record(r: Report) -> Report {
     let mut next = r;
     for n in 3..8 {
         next = part(next, b"records, n = ", n, machine::records(n));
+    }
+    next
+}
+
+// 1,000 records and as many forged ones, 6 comparisons each, of the calls that list no words.
+fn every_change(r: Report) -> Report {
+    let mut next = r;
+    for n in 8..13 {
+        next = part(next, b"changes, n = ", n, machine::changes(n));
     }
     next
 }
@@ -116,6 +125,7 @@ fn main() {
     // 27 levels, 64 caps and 2 marks, 22 calls each.
     r = part(r, b"every small group, n = ", 3, machine::every_small());
     r = every_record(r);
+    r = every_change(r);
     r = every_alike(r);
     r = every_call_list(r);
     r = every_lent_list(r);

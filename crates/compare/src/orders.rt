@@ -230,7 +230,8 @@ pub fn every_pair(n: usize) -> Tally {
     t
 }
 
-// Lists that begin with any four numbers from 0 to 4 and go on with 5, 6 and so on; what follows the length is 0 but in one of five.
+// Lists that begin with any four numbers from 0 to 4, also past their length, and go on with 5, 6 and so on; the twelfth place is one more from
+// k = 625 on.
 fn listed(len: usize, k: usize) -> Order {
     let mut cells = [0u8; 12];
     cells[0] = byte(k % 5);
@@ -246,14 +247,14 @@ fn listed(len: usize, k: usize) -> Order {
     with_cells(cells, len)
 }
 
-// Every such list of a length, alone and beside the one before it.
+// Every such list of a length, alone, beside list k / 2 of the same length, and after the order [2,1,4,3].
 pub fn every_list(len: usize) -> Tally {
     let mut t = none();
     for k in 0..1250 {
         let o = listed(len, k);
         t = each(t, o);
         t = each_pair(t, o, listed(len, k / 2));
-        t = each_pair(t, listed(4, 27), o);
+        t = each_pair(t, listed(4, 482), o);
     }
     t
 }

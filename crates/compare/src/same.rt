@@ -96,7 +96,7 @@ fn rows(a: [u16; 12], b: [u16; 12]) -> bool {
     true
 }
 
-fn push(a: Push, b: Push) -> bool {
+pub fn push(a: Push, b: Push) -> bool {
     if a.cell.0 != b.cell.0 {
         return false;
     }

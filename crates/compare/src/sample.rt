@@ -252,13 +252,16 @@ fn kind(g: Group, s: usize) -> Kind {
     Kind::Wear(c, cap(g, c, s))
 }
 
-// A symbol of n cells, or one just past the last, or any number.
+// A symbol of n cells, or one just past the last, or any number: there are n! / (2n - 1) words, or one more.
 pub fn symbol(n: usize, s: usize) -> u32 {
     if below(16, s, 84) == 0 {
         return below32(4294967296, s, 85);
     }
+    if n < 1 {
+        return 0;
+    }
     if n < 13 {
-        return below32(add(ORDERS[n] / (2 * n + 1), 3), s, 86);
+        return below32(add(ORDERS[n] / (2 * n - 1), 3), s, 86);
     }
     0
 }
