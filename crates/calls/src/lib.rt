@@ -357,19 +357,32 @@ fn put_after(out: &mut [u8], at: usize, mark: u8, n: u64) -> usize
     put_number(out, end, n)
 }
 
-// A number in base ten: its last two digits come after the others.
+// A number in base ten: its last two digits come after the others. A level has four digits at most, and is put without recursion.
 fn put_number(out: &mut [u8], at: usize, n: u64) -> usize
     requires { ⌜ at + length (decimal n) ≤ length (now out) ⌝ }
+    ensures { λ r. ⌜ Puts (now (out .entry)) (now (out .exit)) at r (decimal n) ⌝ }
+{
+    if n < 100 {
+        return put_small(out, at, n);
+    }
+    let high = n / 100;
+    if high < 100 {
+        let end = put_small(out, at, high);
+        return put_pair(out, end, n % 100);
+    }
+    let end = put_number(out, at, high);
+    put_pair(out, end, n % 100)
+}
+
+// A number of one digit or two.
+fn put_small(out: &mut [u8], at: usize, n: u64) -> usize
+    requires { ⌜ (n < 100) × (at + length (decimal n) ≤ length (now out)) ⌝ }
     ensures { λ r. ⌜ Puts (now (out .entry)) (now (out .exit)) at r (decimal n) ⌝ }
 {
     if n < 10 {
         return put_byte(out, at, digit(n));
     }
-    if n < 100 {
-        return put_pair(out, at, n);
-    }
-    let end = put_number(out, at, n / 100);
-    put_pair(out, end, n % 100)
+    put_pair(out, at, n)
 }
 
 // Two digits.
