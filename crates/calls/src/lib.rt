@@ -1,6 +1,6 @@
 // The call records of the program `rmcalls` (document 01, "Calls outside the list"): `step`, the answer to one record, with one equation, and
 // `run`, a whole input turned into the text that the program prints, with an equation for its answer and one for the lent buffer. Proved
-// besides: the printed example (proofs/Example), and that the records after an accepted open are a list of calls of demand 3 (proofs/Course).
+// besides: the printed example (proofs/Example), and that the records from a group up to the next open are a list of calls of demand 3 (proofs/Course).
 use engine::Applied;
 use engine::Call;
 use engine::Kind;

@@ -8,7 +8,7 @@
 --   filled k ps list        the first k of the pushes, then the later places of the list as they were
 --   listAfter g o list      the lent list after the call: the pushes first and the later places untouched; a refusal leaves it as it was
 --   toldLent a              what the answer to `lend` says: that of the write, and the list
---   lendOf g o list room    the answer where the first room of twelve places are lent, all where more are wanted
+--   lendOf g o list room    the answer where the first `room` of twelve places are lent, all twelve where room is more
 use Prim.Native.Nat.{ℕ, _-_, min}
 use mathlib.Core.Bool.{Bool}
 use mathlib.Core.List.{List, [], _∷_, _++_}

@@ -1,6 +1,6 @@
 // The lent list of pushes (document 01: "The call that fills a lent list of pushes writes the pushes first and leaves the later places
 // untouched"). What is written there is decided by value, in `decide`; only `fill`, `write_into` and `lend` have a slice of pushes, and
-// these three are proved by hand. Each public function takes any record and has one equation for its answer and one for its list. Proved
+// these three are proved by hand. Each public function takes any record; equations fix its answer and its list. Proved
 // besides: with room enough the answer is that of `group::write`, and the list starts with its pushes (proofs/Written).
 use group::Group;
 use group::Push;
