@@ -10,11 +10,9 @@ use lib.ListN.{length, getD}
 use borrow.Author.Tests.{eqb-true, eq-eqb}
 use Rattle.order.proofs.Cells.{both}
 use Rattle.code.specs.Words.{modulus, select, leaves, vectorsFrom, vectors, words, K, wordAt, wordNumber}
-use Rattle.code.specs.Tails.{tails, Entry}
-use Rattle.code.specs.Table.{offsetOf, tableRight}
+use Rattle.code.specs.Tails.{tails, Entry, Block}
 use Rattle.code.specs.Steps.{ranged, isWord}
 use Rattle.code.proofs.Tests.{is-true}
-use Rattle.code.proofs.Rule.{rule}
 use Rattle.code.proofs.Lists.{getD-index}
 use Rattle.code.proofs.Numbering.{wordsFrom, count, found, number-word, word-right}
 
@@ -38,10 +36,10 @@ of-word n x w = rw (eq-eqb (length x) (n - 1) (w .size), is-true (ranged 1 x) (w
 
 -- a count of the table is the number of choices of the coordinates from i on that leave r
 pub entry-counts :
-    (counts : List ℕ) → T (tableRight counts) → (n i r : ℕ) → Entry n i r
-    → getD counts (offsetOf n + (i - 1) * (2 * n - 1) + r) 0 ≡ length (select (leaves (modulus n) i r) (vectorsFrom (n - i) i))
+    {n : ℕ} {counts : List ℕ} → Block n counts → (i r : ℕ) → Entry n i r
+    → getD counts ((i - 1) * modulus n + r) 0 ≡ length (select (leaves (modulus n) i r) (vectorsFrom (n - i) i))
 unfolding tails wordsFrom
-entry-counts counts t n i r e = rule counts t n i r e ∙ sym (count (modulus n) (omega arith) (n - i) i r (e .residue))
+entry-counts {n} b i r e = b .at i r e ∙ sym (count (modulus n) (omega arith) (n - i) i r (e .residue))
 
 module _ (n : ℕ) (pos : 0 < n) where
   -- K(n) is an entry of the table

@@ -1,29 +1,30 @@
 -- The rule of the table of counts, carried from the one test of the whole table to each entry.
 -- Assumes nothing.
 use mathlib.Core.Path.{_≡_, ap, _∙_, fun-ext}
-use mathlib.Core.List.{List}
+use mathlib.Core.Bool.{_&&_}
+use mathlib.Core.List.{List, [], _++_}
 use Prim.Native.Nat.{ℕ, zero, suc, _+_, _-_, _*_, _^_, _≤_, _<_}
-use native.Mathlib.Nat.{suc-mul, add-assoc, mul-le-mul-right, le-refl, mod-lt}
+use native.Mathlib.Nat.{suc-mul, mul-le-mul-right, le-refl, mod-lt}
 use native.Mathlib.Omega.{arith}
 use lib.Dec.{T, eqb, ltb, leb, eqb→eq, leb→le, ltb→lt}
-use lib.ListN.{getD}
-use lib.Seq.{getD-drop}
+use lib.ListN.{length, getD, List·getD-append}
 use borrow.Author.Tests.{lt-ltb, le-ltb}
+use Rattle.code.specs.declared.table.Table.{Table}
 use Rattle.code.specs.Words.{modulus}
-use Rattle.code.specs.Tails.{sumBelow, owed, nothing, tailsFrom, tails, Entry}
-use Rattle.code.specs.Table.{all, offsetOf, blockOf, entry, due, blockRight, tableRight, offsetsRight}
-use Rattle.code.proofs.Tests.{all-at}
+use Rattle.code.specs.Tails.{sumBelow, owed, nothing, tailsFrom, tails, Entry, Block}
+use Rattle.code.specs.Table.{all, entry, due, blockRight, blocks, tableRight}
+use Rattle.code.proofs.Tests.{and-left, and-right, all-at}
 
--- the blocks are within the table's 1,215 places
-block-fits : (n : ℕ) → n ≤ 12 → offsetOf n + n * modulus n ≤ 1215
-unfolding offsetOf sumBelow all
-block-fits n h = leb→le _ _ (all-at (λ n. leb (offsetOf n + n * modulus n) 1215) 13 tt n (omega arith))
-
--- and so is each entry's place
-pub inside : (n i r : ℕ) → Entry n i r → offsetOf n + (i - 1) * (2 * n - 1) + r < 1215
-inside n i r e =
+-- each entry's place is within the block's n rows, and so within the largest block
+within : (n i r : ℕ) → Entry n i r → (i - 1) * modulus n + r < n * modulus n
+within n i r e =
     let h : suc (i - 1) ≤ n = omega arith in
-    omega (arith, mul-le-mul-right (modulus n) h, suc-mul (i - 1) (modulus n), block-fits n (e .high))
+    omega (arith, mul-le-mul-right (modulus n) h, suc-mul (i - 1) (modulus n))
+
+pub inside : (n i r : ℕ) → Entry n i r → (i - 1) * modulus n + r < 276
+unfolding all
+inside n i r e =
+    omega (arith, within n i r e, leb→le (n * modulus n) 276 (all-at (λ n. leb (n * modulus n) 276) 13 tt n (omega arith)))
 
 module _ (counts : List ℕ) (n : ℕ) (pos : 0 < n) (t : T (blockRight counts n)) where
   at : (j r : ℕ) → j < n → r < modulus n → entry counts n j r ≡ due counts n j r
@@ -40,19 +41,31 @@ module _ (counts : List ℕ) (n : ℕ) (pos : 0 < n) (t : T (blockRight counts n
       rw (lt-ltb (suc j) n (omega arith)) at (at j r (omega arith) hr)
       ∙ ap (λ (f : ℕ → ℕ). sumBelow f (suc (suc j))) (fun-ext (λ v. row k (suc j) (owed (modulus n) (suc j) r v) (omega arith) (mod-lt _ (omega arith))))
 
--- each entry is the count that it stands for
-pub rule : (counts : List ℕ) → T (tableRight counts) → (n i r : ℕ) → Entry n i r → getD counts (offsetOf n + (i - 1) * (2 * n - 1) + r) 0 ≡ tails n i r
-unfolding tails tableRight
-rule counts t n i r e =
-    let size : 3 + (n - 3) ≡ n = omega arith in
-    let start : suc (i - 1) ≡ i = omega arith in
-    let right : T (blockRight (blockOf counts n) n) = rw size at (all-at (λ k. blockRight (blockOf counts (3 + k)) (3 + k)) 10 t (n - 3) (omega arith)) in
-    rw (add-assoc, ← getD-drop)
-    (rw start at (row (blockOf counts n) n (omega arith) right (n - i) (i - 1) r (omega arith) (e .residue)))
+module _ (t : Table) (right : T (tableRight t)) (k : ℕ) (h : k < 10) where
+  abbrev block : List ℕ
+  block = getD (blocks t) k []
 
-pub offsets-rule : (offsets : List ℕ) → T (offsetsRight offsets) → (n : ℕ) → n ≤ 12 → getD offsets n 0 ≡ offsetOf n
-unfolding offsetsRight
-offsets-rule offsets t n h = eqb→eq _ _ (all-at (λ n. eqb (getD offsets n 0) (offsetOf n)) 13 t n (omega arith))
+  whole : T (eqb (length block) ((3 + k) * modulus (3 + k)) && blockRight block (3 + k))
+  unfolding tableRight
+  whole = all-at (λ k. eqb (length (getD (blocks t) k [])) ((3 + k) * modulus (3 + k)) && blockRight (getD (blocks t) k []) (3 + k)) 10 right k h
+
+  size : length block ≡ (3 + k) * modulus (3 + k)
+  size = eqb→eq _ _ (and-left (eqb (length block) ((3 + k) * modulus (3 + k))) (blockRight block (3 + k)) whole)
+
+  -- each entry of each block is the count that it stands for
+  rule : (i r : ℕ) → Entry (3 + k) i r → getD block ((i - 1) * modulus (3 + k) + r) 0 ≡ tails (3 + k) i r
+  unfolding tails
+  rule i r e =
+      let start : suc (i - 1) ≡ i = omega arith in
+      rw start at (row block (3 + k) (omega arith) (and-right (eqb (length block) ((3 + k) * modulus (3 + k))) (blockRight block (3 + k)) whole) (3 + k - i) (i - 1) r (omega arith) (e .residue))
+
+  -- and so it is in a list that starts with the block
+  pub in-front : (n : ℕ) → n ≡ 3 + k → (xs ys : List ℕ) → xs ≡ block ++ ys → Block n xs
+  in-front n s xs ys q =
+      rw s
+      (record {
+        at = λ i r e. rw q (List·getD-append block ys 0 _ (omega (arith, size, within (3 + k) i r e)) ∙ rule i r e);
+      })
 
 -- how many choices of k coordinates from coordinate i on there are
 ways : ℕ → ℕ → ℕ

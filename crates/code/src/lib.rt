@@ -10,18 +10,20 @@ use order::OrderAnswer;
 use order::Outcome;
 use order::Rank;
 use order::Refusal;
+use table::Table;
 ghost use mathlib.Core.Path.{_≡_};
 ghost use mathlib.Core.Bool.{true};
+ghost use mathlib.Core.List.{_++_};
 ghost use Prim.Native.Nat.{_+_, _%_, _≤_, _<_};
 ghost use lib.Dec.{T};
-ghost use lib.ListN.{take};
+ghost use lib.ListN.{length, take, drop};
 ghost use Rattle.order.specs.Refusals.{isSize};
 ghost use Rattle.order.specs.Order.{listed, toldOrder};
 ghost use Rattle.code.specs.Words.{modulus, weight, K, wordAt, wordNumber};
 ghost use Rattle.code.specs.Decoding.{correction, symbolOf};
 ghost use Rattle.code.specs.Calls.{toldWords, wordsOf, codewordOf, toldTest, isCodewordOf, toldDecode, decodeOf};
-ghost use Rattle.code.specs.Tails.{tails, Entry, owed, having, before};
-ghost use Rattle.code.specs.Table.{tableRight, offsetsRight};
+ghost use Rattle.code.specs.Tails.{tails, Entry, Block, owed, having, before};
+ghost use Rattle.code.specs.Table.{tableRight};
 ghost use Rattle.code.specs.Steps.{held, isWord, Choosing, Chosen, Misread, correctsBy, Exchangeable, exchangedOrder, Codeword};
 
 pub enum WordsAnswer {
@@ -58,7 +60,8 @@ pub fn words(n: usize) -> WordsAnswer
     if !order::is_size(n) {
         return WordsAnswer::Refused(Refusal::Size);
     }
-    let counts = tail_counts();
+    let mut counts = [0u32; 276];
+    put_block(n, &mut counts);
     WordsAnswer::Words(tail_count(&counts, n, 1, 0))
 }
 
@@ -69,7 +72,8 @@ pub fn codeword(n: usize, symbol: u32) -> OrderAnswer
     if !order::is_size(n) {
         return order::no_order(Refusal::Size);
     }
-    let counts = tail_counts();
+    let mut counts = [0u32; 276];
+    put_block(n, &mut counts);
     if tail_count(&counts, n, 1, 0) <= symbol {
         return order::no_order(Refusal::NoSymbol);
     }
@@ -77,8 +81,8 @@ pub fn codeword(n: usize, symbol: u32) -> OrderAnswer
 }
 
 // The coordinates of the codeword of a number.
-fn word(counts: &[u32; 1215], n: usize, symbol: u32) -> Coordinates
-    requires { ⌜ T (tableRight (now counts)) ⌝ }
+fn word(counts: &[u32; 276], n: usize, symbol: u32) -> Coordinates
+    requires { ⌜ Block n (now counts) ⌝ }
     requires { ⌜ (isSize n ≡ true) × (symbol < K n) ⌝ }
     ensures { λ x. ⌜ x ≡ held (wordAt n symbol) ⌝ }
 {
@@ -98,8 +102,8 @@ fn word(counts: &[u32; 1215], n: usize, symbol: u32) -> Coordinates
 }
 
 // Coordinate i of the choice that is the given one among those of coordinates i to n - 1 that leave r.
-fn choose(counts: &[u32; 1215], n: usize, i: usize, r: usize, number: u32) -> Choice
-    requires { ⌜ T (tableRight (now counts)) ⌝ }
+fn choose(counts: &[u32; 276], n: usize, i: usize, r: usize, number: u32) -> Choice
+    requires { ⌜ Block n (now counts) ⌝ }
     requires { ⌜ Choosing n i r ⌝ }
     requires { ⌜ number < tails n i r ⌝ }
     ensures { λ c. ⌜ Chosen n i r number c ⌝ }
@@ -120,8 +124,8 @@ fn choose(counts: &[u32; 1215], n: usize, i: usize, r: usize, number: u32) -> Ch
 }
 
 // The number of choices of coordinates i to n - 1 that leave r and have coordinate i at v.
-fn count_with(counts: &[u32; 1215], n: usize, i: usize, r: usize, v: usize) -> u32
-    requires { ⌜ T (tableRight (now counts)) ⌝ }
+fn count_with(counts: &[u32; 276], n: usize, i: usize, r: usize, v: usize) -> u32
+    requires { ⌜ Block n (now counts) ⌝ }
     requires { ⌜ Choosing n i r ⌝ }
     requires { ⌜ v ≤ i ⌝ }
     ensures { λ c. ⌜ c ≡ having n i r v ⌝ }
@@ -141,27 +145,52 @@ fn residue_after(n: usize, i: usize, r: usize, v: usize) -> usize
 }
 
 // The number of ways to choose coordinates i to n - 1 whose weighted sum leaves r.
-fn tail_count(counts: &[u32; 1215], n: usize, i: usize, r: usize) -> u32
-    requires { ⌜ T (tableRight (now counts)) ⌝ }
+fn tail_count(counts: &[u32; 276], n: usize, i: usize, r: usize) -> u32
+    requires { ⌜ Block n (now counts) ⌝ }
     requires { ⌜ Entry n i r ⌝ }
     ensures { λ c. ⌜ c ≡ tails n i r ⌝ }
 {
-    let starts = offsets();
-    counts[starts[n] + (i - 1) * (2 * n - 1) + r]
+    counts[(i - 1) * (2 * n - 1) + r]
+}
+
+// The block of size n, put into the first places of a lent array. A constant is built anew where it is used, and an n needs no other block.
+fn put_block(n: usize, counts: &mut [u32; 276])
+    requires { ⌜ (isSize n ≡ true) × (length (now counts) ≡ 276) ⌝ }
+    ensures { λ _. ⌜ Block n (now (counts .exit)) ⌝ }
+{
+    let table = tail_counts();
+    match n {
+        3 => put(counts, &table.of_3),
+        4 => put(counts, &table.of_4),
+        5 => put(counts, &table.of_5),
+        6 => put(counts, &table.of_6),
+        7 => put(counts, &table.of_7),
+        8 => put(counts, &table.of_8),
+        9 => put(counts, &table.of_9),
+        10 => put(counts, &table.of_10),
+        11 => put(counts, &table.of_11),
+        12 => put(counts, &table.of_12),
+        _ => {}
+    }
+}
+
+// Counts put into the first places of a lent array.
+fn put(counts: &mut [u32; 276], block: &[u32])
+    requires { ⌜ (length (now counts) ≡ 276) × (length (now block) ≤ 276) ⌝ }
+    ensures { λ _. ⌜ now (counts .exit) ≡ now (block .entry) ++ drop (length (now (block .entry))) (now (counts .entry)) ⌝ }
+{
+    let mut k: usize = 0;
+    while k < block.len() {
+        counts[k] = block[k];
+        k += 1;
+    }
 }
 
 // The table of counts, which passes the test of its recurrence.
-fn tail_counts() -> [u32; 1215]
+fn tail_counts() -> Table
     ensures { λ t. ⌜ T (tableRight t) ⌝ }
 {
     table::COUNTS
-}
-
-// Where the counts of each size start in the table.
-fn offsets() -> [usize; 13]
-    ensures { λ t. ⌜ T (offsetsRight t) ⌝ }
-{
-    table::OFFSETS
 }
 
 // Whether an order is a codeword.
@@ -197,7 +226,8 @@ fn number(x: Coordinates) -> u32
     ensures { λ s. ⌜ s ≡ wordNumber (x .len + 1) (take (x .len) (x .values)) ⌝ }
 {
     let n = x.len + 1;
-    let counts = tail_counts();
+    let mut counts = [0u32; 276];
+    put_block(n, &mut counts);
     let mut sum: u32 = 0;
     let mut r: usize = 0;
     let mut i: usize = 1;
@@ -211,8 +241,8 @@ fn number(x: Coordinates) -> u32
 }
 
 // The number of choices of coordinates i to n - 1 that leave r and have coordinate i below v.
-fn count_before(counts: &[u32; 1215], n: usize, i: usize, r: usize, v: usize) -> u32
-    requires { ⌜ T (tableRight (now counts)) ⌝ }
+fn count_before(counts: &[u32; 276], n: usize, i: usize, r: usize, v: usize) -> u32
+    requires { ⌜ Block n (now counts) ⌝ }
     requires { ⌜ Choosing n i r ⌝ }
     requires { ⌜ v ≤ i ⌝ }
     ensures { λ c. ⌜ c ≡ before n i r v ⌝ }

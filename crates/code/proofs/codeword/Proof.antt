@@ -1,6 +1,6 @@
 -- `code::codeword` meets its contract: the order of a word of the list is never refused.
 -- Assumes nothing.
-use mathlib.Core.Path.{_≡_, sym, ap, _∙_}
+use mathlib.Core.Path.{_≡_, refl, sym, ap, _∙_}
 use mathlib.Core.Bool.{true}
 use Prim.Native.Nat.{_<_, _≤_}
 use native.Mathlib.Omega.{arith}
@@ -32,18 +32,18 @@ returns c =
 sized : (c : tie.Else1) → isSize (c .before .before .args .n) ≡ true
 sized c = sym (c .before .is-size .ensures) ∙ not-false _ (c .if1 .left)
 
-tail-counts-requires : tie.Need-tail-counts-requires
-tail-counts-requires c κs = search needs
+put-block-requires : tie.Need-put-block-requires
+put-block-requires c κs = (sized (c .before), refl)
 
 tail-count-requires : tie.Need-tail-count-requires
 tail-count-requires c κs =
-    let (low, high) = size-true _ (sized (c .before .before)) in
-    (c .before .tail-counts .ensures, record { low = low; high = high; first = omega arith; last = omega arith; residue = omega arith })
+    let (low, high) = size-true _ (sized (c .before .before .before)) in
+    (c .before .put-block .ensures, record { low = low; high = high; first = omega arith; last = omega arith; residue = omega arith })
 
 -- the entry that was read is K(n)
-entry : (c : tie.After-tail-count) → c .tail-count .result ≡ K (c .before .before .before .before .before .args .n)
+entry : (c : tie.After-tail-count) → c .tail-count .result ≡ K (c .before .before .before .before .before .before .args .n)
 entry c =
-    let d = c .before .before .before in
+    let d = c .before .before .before .before in
     let n = d .before .before .args .n in
     let (low, high) = size-true n (sized d) in
     c .tail-count .ensures ∙ K-entry n (omega arith)
@@ -55,19 +55,19 @@ returns-2 : tie.Need-returns-2
 unfolding codewordOf
 returns-2 c =
     let d = c .before .before in
-    let s = d .before .before .before in
+    let s = d .before .before .before .before in
     let a = s .before .before .args in
     let none : K (a .n) ≤ a .symbol = omega (arith, entry d) in
     c .no-order2 .ensures ∙ told-refused _ _ _ NoSymbol (check-holds _ _ (sized s) ∙ check-fails _ _ (le-ltb (a .symbol) (K (a .n)) none))
 
 -- the symbol is below K(n)
-some : (c : tie.Else2) → let a = c .before .before .before .before .before .before .args in a .symbol < K (a .n)
+some : (c : tie.Else2) → let a = c .before .before .before .before .before .before .before .args in a .symbol < K (a .n)
 some c = omega (arith, entry (c .before))
 
 word-requires : tie.Need-word-requires
 word-requires c κs =
     let d = c .before .before .before .before in
-    (d .tail-counts .ensures, (sized (d .before), some (c .before)))
+    (d .put-block .ensures, (sized (d .before .before), some (c .before)))
 
 from-coordinates-requires : tie.Need-from-coordinates-requires
 from-coordinates-requires c κs = search needs
@@ -76,7 +76,7 @@ returns-3 : tie.Need-returns-3
 returns-3 c =
     let w = c .before in
     let d = w .before .before in
-    let s = d .before .before .before .before in
+    let s = d .before .before .before .before .before in
     let n = s .before .before .args .n in
     let (low, high) = size-true n (sized s) in
     c .from-coordinates .ensures ∙ ap orderOfCoordinates (w .word .ensures) ∙ codeword-answer n _ low high (some d)
@@ -88,7 +88,7 @@ codeword-spec =
     is-size-requires
     no-order-requires
     returns
-    tail-counts-requires
+    put-block-requires
     tail-count-requires
     no-order-requires-2
     returns-2

@@ -1,5 +1,6 @@
 -- `code::number` meets its contract, by the invariant of Summing.
 -- Assumes nothing.
+use mathlib.Core.Path.{refl}
 use Prim.Native.Nat.{_+_, _-_}
 use native.Mathlib.Omega.{arith}
 use borrow.Author.Needs.{needs}
@@ -18,11 +19,11 @@ add-n : tie.Need-add-n Inv-loop μ-loop
 add-n c =
     omega (arith, size-true (c .args .t1 .len + 1) (c .pre .0))
 
-tail-counts-requires : tie.Need-tail-counts-requires Inv-loop μ-loop
-tail-counts-requires c κs = search needs
+put-block-requires : tie.Need-put-block-requires Inv-loop μ-loop
+put-block-requires c κs = (c .before .pre .0, refl)
 
 loop-holds : tie.Need-loop-holds Inv-loop μ-loop
-loop-holds c = start _ (search needs) (c .before .pre .0) (c .before .pre .1)
+loop-holds c = start _ (search needs) (c .before .before .pre .0) (c .before .before .pre .1)
 
 sub-v : tie.Need-sub-v Inv-loop μ-loop
 sub-v c = omega arith
@@ -34,7 +35,7 @@ cast-v : tie.Need-cast-v Inv-loop μ-loop
 cast-v c = search needs
 
 count-before-requires : tie.Need-count-before-requires Inv-loop μ-loop
-count-before-requires c κs = (c .before .before .before .before .tail-counts .ensures, choosing _ _ _ _ (c .before .before .before .loop .inv) (omega arith))
+count-before-requires c κs = (c .before .before .before .before .put-block .ensures, choosing _ _ _ _ (c .before .before .before .loop .inv) (omega arith))
 
 add-sum : tie.Need-add-sum Inv-loop μ-loop
 add-sum c = omega (arith, sum-fits _ _ _ _ (c .before .before .before .before .loop .inv) (omega arith))
@@ -61,7 +62,7 @@ number-spec =
     Inv-loop
     μ-loop
     add-n
-    tail-counts-requires
+    put-block-requires
     loop-holds
     sub-v
     element-copy-out-v

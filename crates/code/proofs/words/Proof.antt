@@ -1,6 +1,6 @@
 -- `code::words` meets its contract: K(n) is the table's entry for start 1 and residue 0.
 -- Assumes nothing.
-use mathlib.Core.Path.{_≡_, sym, _∙_}
+use mathlib.Core.Path.{_≡_, refl, sym, _∙_}
 use mathlib.Core.Bool.{true}
 use native.Mathlib.Omega.{arith}
 use borrow.Author.Tests.{not-true, not-false}
@@ -24,18 +24,18 @@ returns c = told-refused _ _ _ Size (check-fails _ _ (sym (c .before .is-size .e
 sized : (c : tie.Else1) → isSize (c .before .before .args .n) ≡ true
 sized c = sym (c .before .is-size .ensures) ∙ not-false _ (c .if1 .left)
 
-tail-counts-requires : tie.Need-tail-counts-requires
-tail-counts-requires c κs = search needs
+put-block-requires : tie.Need-put-block-requires
+put-block-requires c κs = (sized (c .before), refl)
 
 tail-count-requires : tie.Need-tail-count-requires
 tail-count-requires c κs =
-    let (low, high) = size-true _ (sized (c .before .before)) in
-    (c .before .tail-counts .ensures, record { low = low; high = high; first = omega arith; last = omega arith; residue = omega arith })
+    let (low, high) = size-true _ (sized (c .before .before .before)) in
+    (c .before .put-block .ensures, record { low = low; high = high; first = omega arith; last = omega arith; residue = omega arith })
 
 returns-2 : tie.Need-returns-2
 unfolding wordsOf
 returns-2 c =
-    let d = c .before .before .before in
+    let d = c .before .before .before .before in
     let n = d .before .before .args .n in
     let (low, high) = size-true n (sized d) in
     rw (c .tail-count .ensures, K-entry n (omega arith))
@@ -44,4 +44,4 @@ returns-2 c =
 pub words-spec : {M : Type 1} → statement M
 words-spec =
     tie.close
-    (tie.spec is-size-requires returns tail-counts-requires tail-count-requires returns-2)
+    (tie.spec is-size-requires returns put-block-requires tail-count-requires returns-2)
