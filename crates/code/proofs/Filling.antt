@@ -53,8 +53,9 @@ start n symbol h =
     }
 
 module _ (n symbol : ℕ) (values : List ℕ) (number r i : ℕ) (f : Filling n symbol values number r i) where
-  pub step : (c : Choice) (s : ℕ) → i < n → Chosen n i r number c → s ≡ owed (modulus n) i r (c .value) → Filling n symbol (set values (i - 1) (c .value)) (c .number) s (i + 1)
-  step c s h chosen e =
+  pub step : (c : Choice) → i < n → Chosen n i r number c → Filling n symbol (set values (i - 1) (c .value)) (c .number) (c .residue) (i + 1)
+  step c h chosen =
+      let e = chosen .residue in
       let at : Choosing n i r = record { low = f .known .low; high = f .known .high; first = f .first; last = h; residue = f .residue } in
       let place : i + 1 - 1 ≡ suc (i - 1) = omega arith in
       record {

@@ -1,6 +1,6 @@
 -- One coordinate's step, in the terms of the functions: n cells, coordinate i, the residue r that all from i on must leave.
 -- Assumes nothing.
-use mathlib.Core.Path.{_≡_, refl, ap}
+use mathlib.Core.Path.{_≡_, refl, ap, _∙_}
 use mathlib.Core.Logic.{⊎-elim}
 use mathlib.Core.List.{List, [], _∷_}
 use Prim.Native.Nat.{ℕ, suc, _+_, _-_, _≤_, _<_}
@@ -12,7 +12,8 @@ use Rattle.code.specs.Words.{modulus, indexOf}
 use Rattle.code.specs.Tails.{sumBelow, owed, tailsFrom, tails, having, before}
 use Rattle.code.specs.Steps.{Choosing}
 use Rattle.code.proofs.Lists.{sum-term}
-use Rattle.code.proofs.Numbering.{wordsFrom, below, word-suc, number-suc}
+use Rattle.code.proofs.Numbering.{wordsFrom, owed-lt, below, word-suc, number-suc}
+use Rattle.code.proofs.Residue.{none-yet, once-more}
 
 pub before-zero : (n i r : ℕ) → before n i r 0 ≡ 0
 unfolding before sumBelow
@@ -21,6 +22,24 @@ before-zero n i r = refl
 pub before-more : (n i r v : ℕ) → before n i r (v + 1) ≡ before n i r v + having n i r v
 unfolding before sumBelow
 before-more n i r v = rw add-one
+
+-- s is what the later coordinates must leave where coordinate i is v
+pub record Owing (n i r v s : ℕ) : Type 0 where
+  pub right : s ≡ owed (modulus n) i r v
+  pub residue : s < modulus n
+
+module _ {n i r : ℕ} (c : Choosing n i r) where
+  pub none : Owing n i r 0 r
+  none = record { right = none-yet (modulus n) i r (c .residue); residue = c .residue }
+
+  pub more : {v s : ℕ} (t : ℕ) → Owing n i r v s → t ≡ owed (modulus n) i s 1 → Owing n i r (v + 1) t
+  more {v} t o e =
+      let next : t ≡ owed (modulus n) i r (v + 1) = e ∙ rw (o .right) (once-more (modulus n) i r (omega arith) (c .residue) v) in
+      record { right = next; residue = rw next (owed-lt (modulus n) (omega arith) i r (v + 1)) }
+
+-- and the count of these is that with coordinate i at v
+pub counted : {n i r v s : ℕ} (k : ℕ) → Owing n i r v s → k ≡ tails n (i + 1) s → k ≡ having n i r v
+counted k o e = rw (o .right) at e
 
 -- the same count, by the number of coordinates from i on
 before-below : (n i r v : ℕ) → before n i r v ≡ below (modulus n) (n - suc i) i r v

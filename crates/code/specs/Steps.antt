@@ -4,7 +4,7 @@
 --   ranged i x        each coordinate is in its range, where the first is coordinate i
 --   isWord n x        the list is a codeword's list of coordinates, each in its range
 --   Choosing n i r    coordinate i of n cells is chosen, where all from it on must leave r
---   Chosen            coordinate i is the one that the word of a number has, and what is left of the number is that of the later coordinates
+--   Chosen            coordinate i is the one that the word of a number has; what is left of the number, and the residue, are those of the later coordinates
 --   syndromeOf n u    what the weighted sum of an order leaves on division by 2n - 1
 --   Misread o s       an order of n cells whose syndrome is s, and not 0
 --   correctsBy        the exchange of a cell and the one just below it makes the syndrome s 0
@@ -26,7 +26,7 @@ use Rattle.coordinates.specs.Coordinates.{coordinatesTo}
 use Rattle.code.specs.declared.Choice.{Choice}
 use Rattle.code.specs.Words.{modulus, weight, leaves}
 use Rattle.code.specs.Decoding.{isCodeword}
-use Rattle.code.specs.Tails.{having, before}
+use Rattle.code.specs.Tails.{owed, having, before}
 
 abbrev pub held : List ℕ → Coordinates
 held x = record { len = length x; values = x ++ replicate (11 - length x) 0 }
@@ -49,6 +49,7 @@ pub record Chosen (n i r s : ℕ) (c : Choice) : Type 0 where
   pub range : c .value ≤ i
   pub split : s ≡ before n i r (c .value) + c .number
   pub left : c .number < having n i r (c .value)
+  pub residue : c .residue ≡ owed (modulus n) i r (c .value)
 
 unfoldable pub syndromeOf : ℕ → List ℕ → ℕ
 syndromeOf n u = weight 1 (coordinatesTo (n - 1) u) % modulus n

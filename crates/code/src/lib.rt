@@ -22,7 +22,7 @@ ghost use Rattle.order.specs.Order.{listed, toldOrder};
 ghost use Rattle.code.specs.Words.{modulus, weight, K, wordAt, wordNumber};
 ghost use Rattle.code.specs.Decoding.{correction, symbolOf};
 ghost use Rattle.code.specs.Calls.{toldWords, wordsOf, codewordOf, toldTest, isCodewordOf, toldDecode, decodeOf};
-ghost use Rattle.code.specs.Tails.{tails, Entry, Block, owed, having, before};
+ghost use Rattle.code.specs.Tails.{tails, Entry, Block, owed, before};
 ghost use Rattle.code.specs.Table.{tableRight};
 ghost use Rattle.code.specs.Steps.{held, isWord, Choosing, Chosen, Misread, correctsBy, Exchangeable, exchangedOrder, Codeword};
 
@@ -47,10 +47,17 @@ pub enum DecodeAnswer {
     Decoded { symbol: u32, verdict: Verdict },
 }
 
-// A coordinate, and the number that is left for the later ones.
+// A coordinate, the number that is left for the later ones, and what these must leave.
 struct Choice {
     value: usize,
     number: u32,
+    residue: usize,
+}
+
+// The number of choices with a lower coordinate, and what the later coordinates must leave.
+struct Passed {
+    count: u32,
+    residue: usize,
 }
 
 // K(n), the number of codewords of n cells.
@@ -95,7 +102,7 @@ fn word(counts: &[u32; 276], n: usize, symbol: u32) -> Coordinates
         let v = c.value;
         values[i - 1] = v as u8;
         number = c.number;
-        r = residue_after(n, i, r, v);
+        r = c.residue;
         i += 1;
     }
     Coordinates { len: n - 1, values }
@@ -110,38 +117,28 @@ fn choose(counts: &[u32; 276], n: usize, i: usize, r: usize, number: u32) -> Cho
 {
     let mut v: usize = 0;
     let mut left = number;
+    let mut s = r;
     loop {
-        let count = count_with(counts, n, i, r, v);
+        let count = tail_count(counts, n, i + 1, s);
         if left < count {
             return Choice {
                 value: v,
                 number: left,
+                residue: s,
             };
         }
         left -= count;
         v += 1;
+        s = residue_after(n, i, s);
     }
 }
 
-// The number of choices of coordinates i to n - 1 that leave r and have coordinate i at v.
-fn count_with(counts: &[u32; 276], n: usize, i: usize, r: usize, v: usize) -> u32
-    requires { ⌜ Block n (now counts) ⌝ }
+// What the coordinates after i must leave, where coordinate i is 1 and r is left by all from i on.
+fn residue_after(n: usize, i: usize, r: usize) -> usize
     requires { ⌜ Choosing n i r ⌝ }
-    requires { ⌜ v ≤ i ⌝ }
-    ensures { λ c. ⌜ c ≡ having n i r v ⌝ }
+    ensures { λ s. ⌜ s ≡ owed (modulus n) i r 1 ⌝ }
 {
-    tail_count(counts, n, i + 1, residue_after(n, i, r, v))
-}
-
-// What the coordinates after i must leave, for all from i on to leave r, where coordinate i is v.
-fn residue_after(n: usize, i: usize, r: usize, v: usize) -> usize
-    requires { ⌜ Choosing n i r ⌝ }
-    requires { ⌜ v ≤ i ⌝ }
-    ensures { λ s. ⌜ s ≡ owed (modulus n) i r v ⌝ }
-    ensures { λ s. ⌜ s < modulus n ⌝ }
-{
-    let m = 2 * n - 1;
-    (r + (m - i * v % m)) % m
+    if r < i { r + (2 * n - 1 - i) } else { r - i }
 }
 
 // The number of ways to choose coordinates i to n - 1 whose weighted sum leaves r.
@@ -233,27 +230,30 @@ fn number(x: Coordinates) -> u32
     let mut i: usize = 1;
     while i < n {
         let v = x.values[i - 1] as usize;
-        sum += count_before(&counts, n, i, r, v);
-        r = residue_after(n, i, r, v);
+        let passed = pass(&counts, n, i, r, v);
+        sum += passed.count;
+        r = passed.residue;
         i += 1;
     }
     sum
 }
 
-// The number of choices of coordinates i to n - 1 that leave r and have coordinate i below v.
-fn count_before(counts: &[u32; 276], n: usize, i: usize, r: usize, v: usize) -> u32
+// The choices of coordinates i to n - 1 that leave r and have coordinate i below v.
+fn pass(counts: &[u32; 276], n: usize, i: usize, r: usize, v: usize) -> Passed
     requires { ⌜ Block n (now counts) ⌝ }
     requires { ⌜ Choosing n i r ⌝ }
     requires { ⌜ v ≤ i ⌝ }
-    ensures { λ c. ⌜ c ≡ before n i r v ⌝ }
+    ensures { λ p. ⌜ (p .count ≡ before n i r v) × (p .residue ≡ owed (modulus n) i r v) ⌝ }
 {
     let mut count: u32 = 0;
+    let mut s = r;
     let mut u: usize = 0;
     while u < v {
-        count += count_with(counts, n, i, r, u);
+        count += tail_count(counts, n, i + 1, s);
+        s = residue_after(n, i, s);
         u += 1;
     }
-    count
+    Passed { count, residue: s }
 }
 
 // The codeword that an order reads as, by its number, and the verdict.

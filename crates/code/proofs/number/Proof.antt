@@ -34,14 +34,11 @@ element-copy-out-v c = omega arith
 cast-v : tie.Need-cast-v Inv-loop μ-loop
 cast-v c = search needs
 
-count-before-requires : tie.Need-count-before-requires Inv-loop μ-loop
-count-before-requires c κs = (c .before .before .before .before .put-block .ensures, choosing _ _ _ _ (c .before .before .before .loop .inv) (omega arith))
+pass-requires : tie.Need-pass-requires Inv-loop μ-loop
+pass-requires c κs = (c .before .before .before .before .put-block .ensures, choosing _ _ _ _ (c .before .before .before .loop .inv) (omega arith))
 
 add-sum : tie.Need-add-sum Inv-loop μ-loop
-add-sum c = omega (arith, sum-fits _ _ _ _ (c .before .before .before .before .loop .inv) (omega arith))
-
-residue-after-requires : tie.Need-residue-after-requires Inv-loop μ-loop
-residue-after-requires c κs = choosing _ _ _ _ (c .before .before .before .before .loop .inv) (omega arith)
+add-sum c = omega (arith, sum-fits _ _ _ _ (c .before .before .before .before .before .loop .inv) (omega arith))
 
 add-i : tie.Need-add-i Inv-loop μ-loop
 add-i c = omega arith
@@ -50,7 +47,7 @@ loop-less : tie.Need-loop-less Inv-loop μ-loop
 loop-less c = omega arith
 
 loop-again : tie.Need-loop-again Inv-loop μ-loop
-loop-again c = step _ _ _ _ (c .before .before .before .before .before .loop .inv) (omega arith) _ _ (c .before .count-before .ensures) (c .residue-after .ensures .0)
+loop-again c = step _ _ _ _ (c .before .before .before .before .before .loop .inv) (omega arith) _ _ (c .before .pass .ensures .0) (c .before .pass .ensures .1)
 
 returns : tie.Need-returns Inv-loop μ-loop
 returns c = end _ _ _ _ (c .before .loop .inv) (omega arith)
@@ -67,9 +64,8 @@ number-spec =
     sub-v
     element-copy-out-v
     cast-v
-    count-before-requires
+    pass-requires
     add-sum
-    residue-after-requires
     add-i
     loop-less
     loop-again

@@ -31,9 +31,6 @@ sub-values c = omega arith
 array-write-values : tie.Need-array-write-values Inv-loop μ-loop
 array-write-values c = omega arith
 
-residue-after-requires : tie.Need-residue-after-requires Inv-loop μ-loop
-residue-after-requires c κs = search needs
-
 add-i : tie.Need-add-i Inv-loop μ-loop
 add-i c = omega arith
 
@@ -41,8 +38,7 @@ loop-less : tie.Need-loop-less Inv-loop μ-loop
 loop-less c = omega arith
 
 loop-again : tie.Need-loop-again Inv-loop μ-loop
-loop-again c =
-    step _ _ _ _ _ _ (c .before .before .before .loop .inv) _ _ (c .before .before .loop-test .taken) (c .before .choose .ensures) (c .residue-after .ensures .0)
+loop-again c = step _ _ _ _ _ _ (c .before .before .loop .inv) _ (c .before .loop-test .taken) (c .choose .ensures)
 
 sub-t15 : tie.Need-sub-t15 Inv-loop μ-loop
 sub-t15 c = omega arith
@@ -61,7 +57,6 @@ word-spec =
     cast-values
     sub-values
     array-write-values
-    residue-after-requires
     add-i
     loop-less
     loop-again
