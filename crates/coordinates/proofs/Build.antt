@@ -8,7 +8,7 @@ use mathlib.Core.Path.{_≡_, refl, sym, ap, _∙_}
 use mathlib.Core.Bool.{true}
 use mathlib.Core.Logic.{⊎-elim}
 use mathlib.Core.List.{List}
-use lib.ListN.{length, getD, take, set, replicate}
+use lib.ListN.{length, getD, take, set, replicate, List·getD-eq-default}
 use lib.Seq.{ext-getD, getD-take, length-take-le}
 use Rattle.order.specs.declared.Cell.{Cell}
 use Rattle.order.specs.Order.{orderRecord}
@@ -18,7 +18,7 @@ use Rattle.order.proofs.Listings.{cell}
 use Rattle.coordinates.specs.declared.Coordinates.{Coordinates}
 use Rattle.coordinates.specs.Coordinates.{insertAt, orderFrom, inRange}
 use Rattle.coordinates.specs.Calls.{coordinateAt, orderByCoordinates}
-use Rattle.coordinates.proofs.Insert.{length-insert, insert-before, insert-here, insert-after}
+use Rattle.coordinates.proofs.Insert.{length-insert, insert-before, insert-here, insert-after, Moved, moved-none}
 use Rattle.coordinates.proofs.Range.{value-low}
 use Rattle.coordinates.proofs.RoundTrip.{order-is}
 
@@ -52,6 +52,10 @@ module _ (at c : ℕ) (xs : List ℕ) (l : at ≤ length xs) (free : length xs <
       ext-getD (cell 0) (take 12 (insertAt at (cell c) (cellsOf xs))) (cellsOf (insertAt at c xs)) long12
       (λ k g. getD-take 12 (insertAt at (cell c) (cellsOf xs)) k (cell 0) (omega arith) ∙ cell-at k (omega arith) ∙ sym (getD-tabulate 12 (λ k. cell (getD (insertAt at c xs) k 0)) k (cell 0) (omega arith)))
 
+cells-long : (xs : List ℕ) → length (cellsOf xs) ≡ 12
+unfolding orderRecord
+cells-long xs = refl
+
 -- ---- the loop
 
 -- the cells 1 to i are in place
@@ -71,6 +75,19 @@ built-one x w s r = record { whole = w; small = s; range = r; low = omega arith;
 coordinate-at : (values : List ℕ) (i : ℕ) → 1 ≤ i → coordinateAt values i ≡ getD values (i - 1) 0
 coordinate-at values zero l = absurd (not-suc-le-zero l)
 coordinate-at values (suc i) l = let e : i ≡ suc i - 1 = omega arith in ap (λ (k : ℕ). getD values k 0) e
+
+-- the places past them hold no cell
+built-clear : {x : Coordinates} {cells : List Cell} {i : ℕ} → Built x cells i → (k : ℕ) → i ≤ k → k < 12 → getD cells k (cell 0) ≡ cell 0
+unfolding orderRecord
+built-clear {x} {cells} {i} b k l g =
+    let xs = orderFrom (coordinateAt (x .values)) i in
+    rw (b .sofar)
+    (getD-tabulate 12 (λ k. cell (getD xs k 0)) k (cell 0) g ∙ ap cell (List·getD-eq-default xs 0 (omega (arith, order-is (coordinateAt (x .values)) i .size))))
+
+pub built-room : {x : Coordinates} {cells : List Cell} {i : ℕ} → Built x cells i → i < x .len + 1 → (at : ℕ) → at ≤ i → Moved (cell 0) at cells cells i
+built-room {x} {cells} {i} b l at h =
+    moved-none (cell 0) at i cells (rw (b .sofar) (cells-long (orderFrom (coordinateAt (x .values)) i))) h (omega (arith, b .small))
+    (λ k g t. built-clear b k (omega arith) t ∙ sym (built-clear b (k - 1) (omega arith) (omega arith)))
 
 module _ {x : Coordinates} {cells : List Cell} {i : ℕ} (b : Built x cells i) (l : i < x .len + 1) {v : ℕ} (at : v ≡ getD (x .values) (i - 1) 0) where
   pub coordinate-low : v ≤ i

@@ -48,9 +48,11 @@ module _ {A : Type 0} where
     pub low : (k : ℕ) → k ≤ j → getD ys k d ≡ getD xs k d
     pub high : (k : ℕ) → j < k → k < 12 → getD ys k d ≡ getD xs (k - 1) d
 
-  pub moved-none : (d : A) (at : ℕ) (xs : List A) → length xs ≡ 12 → at < 12 → Moved d at xs xs 11
-  moved-none d at xs w l =
-      record { whole = w; long = w; down = omega arith; top = omega arith; low = λ k h. refl; high = λ k h g. absurd (omega arith) }
+  -- those past place `len` are all the same as it
+  pub moved-none : (d : A) (at len : ℕ) (xs : List A) → length xs ≡ 12 → at ≤ len → len ≤ 11
+      → ((k : ℕ) → len < k → k < 12 → getD xs k d ≡ getD xs (k - 1) d) → Moved d at xs xs len
+  moved-none d at len xs w l h same =
+      record { whole = w; long = w; down = l; top = h; low = λ k h. refl; high = same }
 
   module _ {d : A} {at j : ℕ} {xs ys : List A} (m : Moved d at xs ys j) where
     pub moved-more : at < j → Moved d at xs (set ys j (getD ys (j - 1) d)) (j - 1)

@@ -11,11 +11,11 @@ ghost use mathlib.Core.Bool.{true, cond};
 ghost use Prim.Native.Nat.{_-_, _%_, _^_, _≤_, _<_};
 ghost use lib.Count.{ones};
 ghost use lib.Dec.{ltb};
-ghost use lib.ListN.{take, set};
+ghost use lib.ListN.{set};
 ghost use Rattle.order.specs.Refusals.{outcomeNumber, numberOf};
 ghost use Rattle.order.specs.Cells.{isOrder};
 ghost use Rattle.order.specs.Order.{listed, toldOrder};
-ghost use Rattle.coordinates.specs.Coordinates.{insertAt, limit, inRange};
+ghost use Rattle.coordinates.specs.Coordinates.{limit, inRange};
 ghost use Rattle.coordinates.specs.Calls.{coordinatesOf, orderByCoordinates, coordinateChecks, toldCoordinates, coordinatesOfOrder, orderOfCoordinates};
 
 // Coordinate i of an order at index i - 1. Indices from `len` on hold 0.
@@ -61,8 +61,8 @@ fn coordinates_by_sweep(o: Order) -> Coordinates
     while 0 < i {
         i -= 1;
         let c = o.cells[i].number();
-        let next = with_coordinate(values, c, count_below(met, c));
-        values = next;
+        let v = count_below(met, c);
+        put_coordinate(&mut values, c, v);
         met += order::bit_of(c);
     }
     Coordinates { len: n - 1, values }
@@ -76,17 +76,15 @@ fn count_below(met: u32, c: usize) -> u8
     u32::count_ones(met % order::bit_of(c)) as u8
 }
 
-// The values with coordinate c - 1, which is that of cell c. Cell 1 has none.
-fn with_coordinate(values: [u8; 11], c: usize, v: u8) -> [u8; 11]
+// Coordinate c - 1, which is that of cell c, put among the values. Cell 1 has none.
+fn put_coordinate(values: &mut [u8; 11], c: usize, v: u8)
     requires { ⌜ c ≤ 12 ⌝ }
-    ensures { λ r. ⌜ r ≡ cond (ltb c 2) values (set values (c - 2) v) ⌝ }
+    ensures { λ _. ⌜ now (values .exit) ≡ cond (ltb c 2) (now (values .entry)) (set (now (values .entry)) (c - 2) v) ⌝ }
 {
     if c < 2 {
-        return values;
+        return;
     }
-    let mut next = values;
-    next[c - 2] = v;
-    next
+    values[c - 2] = v;
 }
 
 // The order of given coordinates.
@@ -159,25 +157,14 @@ fn order_by_insertion(x: Coordinates) -> Order
     cells[0] = Cell(1);
     let mut i: usize = 1;
     while i < n {
-        let after = wide(x.values[i - 1]);
-        let next = with_cell(cells, i - after, Cell((i + 1) as u8));
-        cells = next;
+        let at = i - wide(x.values[i - 1]);
+        let mut j = i;
+        while at < j {
+            cells[j] = cells[j - 1];
+            j -= 1;
+        }
+        cells[at] = Cell((i + 1) as u8);
         i += 1;
     }
     Order { len: n, cells }
-}
-
-// The cells with c put in at an index. The last one falls out.
-fn with_cell(cells: [Cell; 12], at: usize, c: Cell) -> [Cell; 12]
-    requires { ⌜ at < 12 ⌝ }
-    ensures { λ r. ⌜ r ≡ take 12 (insertAt at c cells) ⌝ }
-{
-    let mut next = cells;
-    let mut j: usize = 11;
-    while at < j {
-        next[j] = next[j - 1];
-        j -= 1;
-    }
-    next[at] = c;
-    next
 }

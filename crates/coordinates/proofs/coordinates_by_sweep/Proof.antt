@@ -40,31 +40,31 @@ number-requires c κs = search needs
 count-below-requires : tie.Need-count-below-requires Inv-loop μ-loop
 count-below-requires c κs = (counted-low (turn c), counted-high (turn c))
 
-with-coordinate-requires : tie.Need-with-coordinate-requires Inv-loop μ-loop
-with-coordinate-requires c κs = counted-high (turn (c .before))
+put-coordinate-requires : tie.Need-put-coordinate-requires Inv-loop μ-loop
+put-coordinate-requires c κs = counted-high (turn (c .before .before))
 
 bit-of-requires : tie.Need-bit-of-requires Inv-loop μ-loop
 bit-of-requires c κs = search needs
 
 -- the bit that is added
-bit : (c : tie.After-bit-of Inv-loop μ-loop) → c .bit-of .result ≡ 2 ^ (c .before .before .before .number .result - 1)
+bit : (c : tie.After-bit-of Inv-loop μ-loop) → c .bit-of .result ≡ 2 ^ (c .before .before .before .before .number .result - 1)
 bit c =
-    let t = turn (c .before .before .before) in
+    let t = turn (c .before .before .before .before) in
     c .bit-of .ensures ∙ bit-of-cell _ (counted-low t) (counted-high t)
 
 add-met : tie.Need-add-met Inv-loop μ-loop
-add-met c = counted-fits (turn (c .before .before .before)) (bit c)
+add-met c = counted-fits (turn (c .before .before .before .before)) (bit c)
 
 loop-less : tie.Need-loop-less Inv-loop μ-loop
 loop-less c = search needs
 
 loop-again : tie.Need-loop-again Inv-loop μ-loop
 loop-again c =
-    rw (bit c, c .before .with-coordinate .ensures, c .before .before .count-below .ensures)
-    (counted-more (turn (c .before .before .before)))
+    rw (bit c, c .before .put-coordinate .ensures, c .before .before .before .count-below .ensures)
+    (counted-more (turn (c .before .before .before .before)))
 
-sub-t15 : tie.Need-sub-t15 Inv-loop μ-loop
-sub-t15 c = search needs
+sub-t16 : tie.Need-sub-t16 Inv-loop μ-loop
+sub-t16 c = search needs
 
 returns : tie.Need-returns Inv-loop μ-loop
 unfolding coordinatesOf
@@ -81,10 +81,10 @@ coordinates-by-sweep-spec =
     element-copy-out-number
     number-requires
     count-below-requires
-    with-coordinate-requires
+    put-coordinate-requires
     bit-of-requires
     add-met
     loop-less
     loop-again
-    sub-t15
+    sub-t16
     returns)
