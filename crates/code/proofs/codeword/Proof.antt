@@ -67,7 +67,7 @@ some c = omega (arith, entry (c .before))
 word-requires : tie.Need-word-requires
 word-requires c κs =
     let d = c .before .before .before .before in
-    (d .put-block .ensures, (sized (d .before .before), some (c .before)))
+    (d .put-block .ensures, (sized (d .before .before), omega (arith, some (c .before))))
 
 from-coordinates-requires : tie.Need-from-coordinates-requires
 from-coordinates-requires c κs = search needs

@@ -35,7 +35,9 @@ cast-v : tie.Need-cast-v Inv-loop μ-loop
 cast-v c = search needs
 
 pass-requires : tie.Need-pass-requires Inv-loop μ-loop
-pass-requires c κs = (c .before .before .before .before .put-block .ensures, choosing _ _ _ _ (c .before .before .before .loop .inv) (omega arith))
+pass-requires c κs =
+    let (at, range) = choosing _ _ _ _ (c .before .before .before .loop .inv) (omega arith) in
+    (c .before .before .before .before .put-block .ensures, (at, omega arith))
 
 add-sum : tie.Need-add-sum Inv-loop μ-loop
 add-sum c = omega (arith, sum-fits _ _ _ _ (c .before .before .before .before .before .loop .inv) (omega arith))
