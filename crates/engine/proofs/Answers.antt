@@ -17,7 +17,7 @@ use Rattle.order.specs.declared.Outcome.the-variants.{Done, Refused}
 use Rattle.order.specs.Refusals.{refusalNumber, outcomeNumber, numberOf, Told, answer}
 use Rattle.order.specs.Cells.{isOrder}
 use Rattle.order.specs.Order.{listed, orderRecord, isOrderOf, orderChecks, toldOrder}
-use Rattle.order.proofs.Refusals.{check-holds, check-fails, check-held, later-decide, refused-first, outcome-first, told-done, told-refused, passed-on, accepted, size-in}
+use Rattle.order.proofs.Refusals.{refused-zeros, check-holds, check-fails, check-held, later-decide, refused-first, outcome-first, told-done, told-refused, passed-on, accepted, size-in}
 use Rattle.order.proofs.Records.{passed, recorded-length, recorded-list, recorded-passes}
 use Rattle.code.specs.declared.Verdict.{Verdict}
 use Rattle.code.specs.Words.{K}
@@ -37,6 +37,15 @@ use Rattle.engine.specs.Calls.{sensedOrder, readChecks, readingOf, toldR
 same-answer : {A : Type 0} (a b : List (Bool × Refusal)) (x y zeros : A) → numberOf a ≡ numberOf b → x ≡ y → answer a x zeros ≡ answer b y zeros
 unfolding answer
 same-answer a b x y zeros e f = rw (e, f)
+
+-- checks that come first decide both where one of them refuses
+same-first :
+    {A : Type 0} (first a b : List (Bool × Refusal)) (x y zeros : A)
+    → (numberOf first ≡ 0 → answer (first ++ a) x zeros ≡ answer (first ++ b) y zeros) → answer (first ++ a) x zeros ≡ answer (first ++ b) y zeros
+unfolding answer numberOf
+same-first [] a b x y zeros h = h refl
+same-first ((true, r) ∷ first) a b x y zeros h = same-first first a b x y zeros h
+same-first ((false, r) ∷ first) a b x y zeros h = rw (refused-zeros r x zeros, refused-zeros r y zeros)
 
 -- ---- the order that is sensed
 
@@ -94,6 +103,11 @@ module _ (g : Group) (s : ℕ) where
       → record { number = outcomeNumber o; value = unpushed g } ≡ storeOf g s
   unfolding storeOf
   store-refused e d = passed-on _ _ _ _ (outcome-first _ (groupChecks g) e d) _ d
+
+  -- a write of any order refuses it likewise
+  pub store-by-write : (o : Order) → (numberOf (groupChecks g) ≡ 0 → writeOf g o ≡ storeOf g s) → writeOf g o ≡ storeOf g s
+  unfolding writeOf storeOf
+  store-by-write o h = same-first (groupChecks g) _ _ _ _ (unpushed g) h
 
   module _ (d : numberOf (groupChecks g) ≡ 0) where
     abbrev symbolCheck : List (Bool × Refusal)

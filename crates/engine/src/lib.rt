@@ -82,17 +82,18 @@ pub fn read(g: Group) -> ReadAnswer
     }
 }
 
-// A group with a symbol stored in it: the codeword of that number is written.
+// A group with a symbol stored in it: the codeword of that number is written. The write checks the record; where there is no codeword to write,
+// the record is checked here, since its refusals come first.
 pub fn store(g: Group, symbol: u32) -> Written
     ensures { λ r. ⌜ toldWritten r ≡ storeOf g symbol ⌝ }
 {
-    let checked = group::check(g);
-    let Outcome::Done = checked else {
-        return group::unwritten(checked, g);
-    };
     let word = code::codeword(g.n, symbol);
     let found = word.outcome;
     let Outcome::Done = found else {
+        let checked = group::check(g);
+        let Outcome::Done = checked else {
+            return group::unwritten(checked, g);
+        };
         return group::unwritten(found, g);
     };
     let order = word.order;
