@@ -10,7 +10,7 @@ use lib.Seq.{sets, sets-eq}
 use Rattle.coordinates.specs.declared.Coordinates.{Coordinates}
 use Rattle.code.specs.declared.Choice.{Choice}
 use Rattle.code.specs.Words.{modulus, K, wordAt, words, vectors}
-use Rattle.code.specs.Tails.{tails, owed}
+use Rattle.code.specs.Tails.{tails}
 use Rattle.code.specs.Steps.{held, Choosing, Chosen}
 use Rattle.code.proofs.Numbering.{wordsFrom, owed-lt, word-right}
 use Rattle.code.proofs.Laws.{K-entry, word-is-word, word-of}
