@@ -42,7 +42,7 @@ unfolding tails wordsFrom
 entry-counts {n} b i r e = b .at i r e ∙ sym (count (modulus n) (omega arith) (n - i) i r (e .residue))
 
 module _ (n : ℕ) (pos : 0 < n) where
-  -- K(n) is an entry of the table
+  -- K(n) is the count at start 1 and residue 0
   pub K-entry : tails n 1 0 ≡ K n
   unfolding K tails words wordsFrom vectors
   K-entry = sym (count (modulus n) (omega arith) (n - 1) 1 0 (omega arith))

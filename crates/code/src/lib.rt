@@ -150,7 +150,8 @@ fn tail_count(counts: &[u32; 276], n: usize, i: usize, r: usize) -> u32
     counts[(i - 1) * (2 * n - 1) + r]
 }
 
-// The block of size n, put into the first places of a lent array. A constant is built anew where it is used, and an n needs no other block.
+// The block of size n, put into the first places of a lent array. A constant is built anew where it is used; the compiler leaves out the blocks
+// that an arm does not copy.
 fn put_block(n: usize, counts: &mut [u32; 276])
     requires { ⌜ (isSize n ≡ true) × (length (now counts) ≡ 276) ⌝ }
     ensures { λ _. ⌜ Block n (now (counts .exit)) ⌝ }
