@@ -2,7 +2,7 @@
 -- Assumes nothing.
 use Prim.Native.Nat.{ℕ}
 use mathlib.Core.Path.{_≡_, refl}
-use mathlib.Core.List.{List, [], _∷_, _++_}
+use mathlib.Core.List.{List, [], _∷_}
 use Rattle.order.specs.Refusals as refusals
 use Rattle.coordinates.specs.Coordinates.{coordinateOf, coordinatesTo, orderFrom}
 use Rattle.code.specs.Words.{joined, select, same, indexOf, vectorsFrom, weight, leaves, vectors, words, K, wordAt, wordNumber}
