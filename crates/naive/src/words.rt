@@ -110,30 +110,6 @@ pub fn word_cells(l: Listing) -> [u8; 12] {
     placed(values, l.n)
 }
 
-// K(n), by listing.
-pub fn words(n: usize) -> NumberFound {
-    if !is_size(n) {
-        return NumberFound {
-            number: 1,
-            value: 0,
-        };
-    }
-    let mut l = first(n);
-    for count in 0..LISTS {
-        if l.ended {
-            return NumberFound {
-                number: 0,
-                value: count,
-            };
-        }
-        l = next_word(l);
-    }
-    NumberFound {
-        number: 0,
-        value: LISTS,
-    }
-}
-
 // The word of a number, by listing as far.
 pub fn codeword(n: usize, symbol: u32) -> OrderFound {
     if !is_size(n) {
