@@ -4,9 +4,11 @@ pub mod Tabulate
 pub mod Mask
 pub mod Numbers
 pub mod Sweep
+pub mod Padded
+pub mod Limits
+pub mod Marks
 pub mod Check
 pub mod Ranking
-pub mod Padded
 pub mod Inverse
 pub mod Inverted
 pub mod Listings

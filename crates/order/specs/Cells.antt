@@ -13,8 +13,7 @@
 --   placeOf xs c       the place of c in the list, from 1, and 0 where it is not there: in an order the rank of cell c,
 --                      in a list of ranks by cell the cell of rank c
 --   isCell n c         c is one of the cells 1 to n
---   bitOf c            the bit of cell c in a set of cells, and 0 where no group has a cell c
-use Prim.Native.Nat.{ℕ, zero, suc, _+_, _-_, _^_}
+use Prim.Native.Nat.{ℕ, zero, suc, _+_}
 use mathlib.Core.Bool.{Bool, true, false, _&&_, cond}
 use mathlib.Core.List.{List, [], _∷_}
 use lib.ListN.{length, take, drop}
@@ -61,6 +60,3 @@ placeOf xs c = placeFrom 1 xs c
 
 abbrev pub isCell : ℕ → ℕ → Bool
 isCell n c = leb 1 c && leb c n
-
-unfoldable pub bitOf : ℕ → ℕ
-bitOf c = cond (isCell 12 c) (2 ^ (c - 1)) 0

@@ -1,3 +1,4 @@
 pub mod Refusals
 pub mod Cells
 pub mod Order
+pub mod Steps

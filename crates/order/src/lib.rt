@@ -3,11 +3,12 @@
 // refusal's number and zeros, or the result. Proved besides: an order and its ranks undo each other, both ways (proofs/Inverses).
 ghost use mathlib.Core.Path.{_≡_};
 ghost use mathlib.Core.Bool.{true, cond};
-ghost use Prim.Native.Nat.{_-_, _/_, _%_, _^_, _≤_};
-ghost use lib.Dec.{eqb, ltb};
+ghost use Prim.Native.Nat.{_-_, _≤_};
+ghost use lib.Dec.{ltb};
 ghost use lib.ListN.{length, drop, set};
 ghost use Rattle.order.specs.Refusals.{refusalNumber, outcomeNumber, numberOf, isSize};
-ghost use Rattle.order.specs.Cells.{isOrder, isListing, allZero, bitOf};
+ghost use Rattle.order.specs.Cells.{isOrder, isListing, allZero};
+ghost use Rattle.order.specs.Steps.{isPadded};
 ghost use Rattle.order.specs.Order.{cellNumbers, listed, isOrderOf, orderChecks, pairChecks, noOrder, orderRecord, toldOrder, orderOfCells, rankNumbers, rankChecks, ranksOf, orderByRank, toldRanks, ranksOfOrder, orderOfRanks};
 
 // A cell's number, from 1.
@@ -114,19 +115,6 @@ pub fn is_size(n: usize) -> bool
     if 3 <= n { n <= 12 } else { false }
 }
 
-// The bit of cell c in a set of cells. A number that is no cell of any group has none.
-pub fn bit_of(c: usize) -> u32
-    ensures { λ r. ⌜ r ≡ bitOf c ⌝ }
-{
-    if c < 1 {
-        return 0;
-    }
-    if 12 < c {
-        return 0;
-    }
-    1u32 << (c - 1)
-}
-
 // Whether the record is an order of the cells 1 to n. Whether n is a size is another check.
 pub fn is_order(o: Order, n: usize) -> bool
     ensures { λ r. ⌜ r ≡ isOrderOf n o ⌝ }
@@ -137,59 +125,71 @@ pub fn is_order(o: Order, n: usize) -> bool
     if 12 < n {
         return false;
     }
-    if lists_each_once(o) {
-        is_clear_past(o)
+    if is_padded(o) {
+        lists_each_once(o)
     } else {
         false
     }
 }
 
-// Whether the listed cells are 1 to the length, each once. Swept from the last place, with the set of cells met.
-fn lists_each_once(o: Order) -> bool
+// Whether the places up to the length hold numbers up to 12, and the places past it 0. From 12 - n on, the row of limits has n places before
+// its zeros.
+fn is_padded(o: Order) -> bool
     requires { ⌜ o .len ≤ 12 ⌝ }
-    ensures { λ r. ⌜ r ≡ isOrder (o .len) (listed o) ⌝ }
+    ensures { λ r. ⌜ r ≡ isPadded (o .len) (cellNumbers o) ⌝ }
 {
+    let limits = [
+        12,
+        12,
+        12,
+        12,
+        12,
+        12,
+        12,
+        12,
+        12,
+        12,
+        12,
+        12,
+        0,
+        0,
+        0,
+        0,
+        0,
+        0,
+        0,
+        0,
+        0,
+        0,
+        0,
+        0,
+    ];
     let n = o.len;
-    let mut met: u32 = 0;
-    let mut i = n;
-    while 0 < i {
-        i -= 1;
-        let c = o.cells[i].number();
-        if c == 0 {
-            return false;
-        }
-        if n < c {
-            return false;
-        }
-        if has(met, c) {
-            return false;
-        }
-        met += bit_of(c);
-    }
-    true
-}
-
-// Whether the set has cell c.
-fn has(met: u32, c: usize) -> bool
-    requires { ⌜ (1 ≤ c) × (c ≤ 12) ⌝ }
-    ensures { λ r. ⌜ r ≡ eqb (met / 2 ^ (c - 1) % 2) 1 ⌝ }
-{
-    (met >> (c - 1)) % 2 == 1
-}
-
-// Whether the places past the length hold no cell.
-fn is_clear_past(o: Order) -> bool
-    requires { ⌜ o .len ≤ 12 ⌝ }
-    ensures { λ r. ⌜ r ≡ allZero (drop (o .len) (cellNumbers o)) ⌝ }
-{
-    let mut i = o.len;
+    let mut padded = true;
+    let mut i = 0;
     while i < 12 {
-        if o.cells[i].0 != 0 {
-            return false;
+        if limits[12 - n + i] < o.cells[i].0 {
+            padded = false;
         }
         i += 1;
     }
-    true
+    padded
+}
+
+// Whether the listed cells are 1 to the length, each once: n numbers among which each of 1 to n stands. Bit c of the set says that c is met.
+// Bit 0 is set from the start: 0 stands past the length.
+fn lists_each_once(o: Order) -> bool
+    requires { ⌜ (o .len ≤ 12) × (isPadded (o .len) (cellNumbers o) ≡ true) ⌝ }
+    ensures { λ r. ⌜ r ≡ isOrder (o .len) (listed o) ⌝ }
+{
+    let n = o.len;
+    let mut met: u32 = 1;
+    let mut i = 0;
+    while i < 12 {
+        met = met | (1u32 << o.cells[i].0);
+        i += 1;
+    }
+    met == (2u32 << n) - 1
 }
 
 // The outcome for an order that is handed in without a group.
