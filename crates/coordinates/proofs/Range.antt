@@ -4,8 +4,8 @@ use Prim.Native.Nat.{ℕ, zero, suc, _+_, _≤_, _<_}
 use native.Mathlib.Nat.{not-suc-le-zero, le-of-suc-le-suc, add-zero}
 use native.Mathlib.Numerals.{add-one}
 use native.Mathlib.Omega.{arith}
-use mathlib.Core.Path.{_≡_, refl, sym, ap, _∙_}
-use mathlib.Core.Bool.{true, false, _&&_}
+use mathlib.Core.Path.{_≡_, refl}
+use mathlib.Core.Bool.{Bool, true, _&&_, and-true, and-assoc}
 use mathlib.Core.List.{List, [], _∷_}
 use lib.ListN.{length, getD, drop, drop-of-length-le}
 use lib.Dec.{leb}
@@ -15,32 +15,27 @@ use Rattle.coordinates.specs.Coordinates.{inRange, limit}
 use Rattle.order.proofs.Cells.{both}
 use Rattle.order.proofs.Numbers.{drop-up}
 
--- the first k coordinates are in range
-pub record RangedTo (x : Coordinates) (k : ℕ) : Type 0 where
+-- `within` says whether the first k coordinates are in range
+pub record RangedTo (x : Coordinates) (within : Bool) (k : ℕ) : Type 0 where
   pub whole : length (x .values) ≡ 11
   pub left : k ≤ 11
-  pub same : inRange (x .len) (k + 1) (drop k (x .values)) ≡ inRange (x .len) 1 (x .values)
+  pub same : within && inRange (x .len) (k + 1) (drop k (x .values)) ≡ inRange (x .len) 1 (x .values)
 
-pub ranged-none : (x : Coordinates) → length (x .values) ≡ 11 → RangedTo x 0
+pub ranged-none : (x : Coordinates) → length (x .values) ≡ 11 → RangedTo x true 0
 ranged-none x w = record { whole = w; left = omega arith; same = refl }
 
-module _ {x : Coordinates} {k : ℕ} (t : RangedTo x k) where
-  ranged-step : k < 11
-      → inRange (x .len) (k + 1) (drop k (x .values))
-      ≡ leb (getD (x .values) k 0) (limit (x .len) (k + 1)) && inRange (x .len) (k + 1 + 1) (drop (k + 1) (x .values))
+module _ {x : Coordinates} {within : Bool} {k : ℕ} (t : RangedTo x within k) where
+  -- v is coordinate k + 1, and m the largest that it can be
+  pub ranged-more : k < 11 → {v m : ℕ} → v ≡ getD (x .values) k 0 → m ≡ limit (x .len) (k + 1) → RangedTo x (within && leb v m) (k + 1)
   unfolding inRange
-  ranged-step l = ap (inRange (x .len) (k + 1)) (drop-up (x .values) k (omega (arith, t .whole))) ∙ rw (add-one (k + 1))
+  ranged-more l {v} {m} at top =
+      let next : inRange (x .len) (k + 1) (drop k (x .values)) ≡ leb v m && inRange (x .len) (k + 1 + 1) (drop (k + 1) (x .values)) =
+      rw (drop-up (x .values) k (omega (arith, t .whole)), add-one (k + 1), at, top) in
+      record { whole = t .whole; left = omega arith; same = rw (and-assoc, ← next) (t .same) }
 
-  module _ (l : k < 11) {v : ℕ} (at : v ≡ getD (x .values) k 0) {m : ℕ} (top : m ≡ limit (x .len) (k + 1)) where
-    pub ranged-more : v ≤ m → RangedTo x (k + 1)
-    ranged-more h = record { whole = t .whole; left = omega arith; same = sym (ranged-step l ∙ rw (← at, ← top, le-leb v m h)) ∙ t .same }
-
-    pub ranged-not : m < v → false ≡ inRange (x .len) 1 (x .values)
-    ranged-not h = sym (ranged-step l ∙ rw (← at, ← top, lt-leb v m h)) ∙ t .same
-
-  pub ranged-all : 11 ≤ k → true ≡ inRange (x .len) 1 (x .values)
+  pub ranged-all : 11 ≤ k → within ≡ inRange (x .len) 1 (x .values)
   unfolding inRange
-  ranged-all l = sym (ap (inRange (x .len) (k + 1)) (drop-of-length-le (x .values) {i = k} (omega (arith, t .whole)))) ∙ t .same
+  ranged-all l = rw (drop-of-length-le (x .values) {i = k} (omega (arith, t .whole)), and-true) at (t .same)
 
 -- ---- what it tells of a value
 

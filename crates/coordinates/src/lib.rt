@@ -123,14 +123,15 @@ fn are_in_range(x: Coordinates) -> bool
     ensures { λ r. ⌜ r ≡ inRange (x .len) 1 (x .values) ⌝ }
 {
     let m = x.len;
+    let mut within = true;
     let mut k: usize = 0;
     while k < 11 {
         if limit_of(m, k + 1) < wide(x.values[k]) {
-            return false;
+            within = false;
         }
         k += 1;
     }
-    true
+    within
 }
 
 // The largest that coordinate i of m can be.
