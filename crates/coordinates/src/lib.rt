@@ -63,7 +63,7 @@ fn coordinates_by_sweep(o: Order) -> Coordinates
         let c = o.cells[i].number();
         let v = count_below(met, c);
         put_coordinate(&mut values, c, v);
-        met += order::bit_of(c);
+        met += bit_of(c);
     }
     Coordinates { len: n - 1, values }
 }
@@ -73,7 +73,15 @@ fn count_below(met: u32, c: usize) -> u8
     requires { ⌜ (1 ≤ c) × (c ≤ 12) ⌝ }
     ensures { λ r. ⌜ r ≡ ones (met % 2 ^ (c - 1)) ⌝ }
 {
-    u32::count_ones(met % order::bit_of(c)) as u8
+    u32::count_ones(met % bit_of(c)) as u8
+}
+
+// The bit of cell c in a set of cells.
+fn bit_of(c: usize) -> u32
+    requires { ⌜ (1 ≤ c) × (c ≤ 12) ⌝ }
+    ensures { λ r. ⌜ r ≡ 2 ^ (c - 1) ⌝ }
+{
+    1u32 << (c - 1)
 }
 
 // Coordinate c - 1, which is that of cell c, put among the values. Cell 1 has none.

@@ -5,7 +5,6 @@ use Prim.Native.Nat.{_-_, _^_}
 use mathlib.Core.Path.{_≡_, _∙_}
 use Rattle.order.specs.Order.{cellNumbers}
 use Rattle.order.proofs.Numbers.{length-mapped, length-places, place-at}
-use Rattle.order.proofs.Mask.{bit-of-cell}
 use Rattle.order.proofs.Sweep.{Turn}
 use Rattle.coordinates.specs.Calls.{coordinatesOf}
 use Rattle.coordinates.proofs.Counting.{Counted, counted-none, counted-low, counted-high, counted-fits, counted-more, counted-all}
@@ -44,13 +43,11 @@ put-coordinate-requires : tie.Need-put-coordinate-requires Inv-loop μ-loop
 put-coordinate-requires c κs = counted-high (turn (c .before .before))
 
 bit-of-requires : tie.Need-bit-of-requires Inv-loop μ-loop
-bit-of-requires c κs = search needs
+bit-of-requires c κs = (counted-low (turn (c .before .before .before)), counted-high (turn (c .before .before .before)))
 
 -- the bit that is added
 bit : (c : tie.After-bit-of Inv-loop μ-loop) → c .bit-of .result ≡ 2 ^ (c .before .before .before .before .number .result - 1)
-bit c =
-    let t = turn (c .before .before .before .before) in
-    c .bit-of .ensures ∙ bit-of-cell _ (counted-low t) (counted-high t)
+bit c = c .bit-of .ensures
 
 add-met : tie.Need-add-met Inv-loop μ-loop
 add-met c = counted-fits (turn (c .before .before .before .before)) (bit c)

@@ -7,7 +7,6 @@ use native.Mathlib.Nat.{mod-lt}
 use native.Mathlib.Omega.{arith}
 use lib.Pow.{pow-pos}
 use lib.Count.{ones-le}
-use Rattle.order.proofs.Mask.{bit-of-cell}
 use Rattle.coordinates.proofs.count_below.Statement.{statement}
 use Rattle.coordinates.proofs.count_below.Tie as tie
 
@@ -16,7 +15,7 @@ bit-of-requires c κs = search needs
 
 -- the bit of c
 bit : (c : tie.After-bit-of) → c .bit-of .result ≡ 2 ^ (c .before .args .c - 1)
-bit c = c .bit-of .ensures ∙ bit-of-cell _ (c .before .pre .0) (c .before .pre .1)
+bit c = c .bit-of .ensures
 
 rem-result : tie.Need-rem-result
 rem-result c = rw (bit c) (pow-pos _)
