@@ -10,6 +10,7 @@ use lib.Dec.{T, ltb, leb, leb→le}
 use lib.ListN.{length, length-append}
 use borrow.Author.Tests.{ltb-true, ltb-false, lt-ltb, le-ltb}
 use Rattle.calls.specs.Text.{spelled, decimal}
+use Rattle.calls.specs.Steps.{pair}
 
 spelled-digit : (k n : ℕ) → n < 10 → spelled (suc k) n ≡ (48 + n) ∷ []
 unfolding spelled
@@ -47,13 +48,13 @@ decimal-last n h =
     spelled-last n n h ∙ ap (λ (ds : List ℕ). ds ++ (48 + n % 10) ∷ []) (spelled-enough n (suc (n / 10)) (n / 10) a b)
 
 -- two digits
-pub decimal-pair : (n : ℕ) → 10 ≤ n → n < 100 → decimal n ≡ (48 + n / 10) ∷ (48 + n % 10) ∷ []
+pub decimal-pair : (n : ℕ) → 10 ≤ n → n < 100 → decimal n ≡ pair n
 decimal-pair n h l =
     let high : n / 10 < 10 = omega arith in
     decimal-last n h ∙ ap (λ (ds : List ℕ). ds ++ (48 + n % 10) ∷ []) (decimal-digit (n / 10) high)
 
 -- the last two digits come after the others
-pub decimal-last-two : (n : ℕ) → 100 ≤ n → decimal n ≡ decimal (n / 100) ++ (48 + n % 100 / 10) ∷ (48 + n % 100 % 10) ∷ []
+pub decimal-last-two : (n : ℕ) → 100 ≤ n → decimal n ≡ decimal (n / 100) ++ pair (n % 100)
 decimal-last-two n h =
     let ten : 10 ≤ n = omega arith in
     let more : 10 ≤ n / 10 = omega arith in
@@ -67,6 +68,21 @@ decimal-last-two n h =
     ∙ ap (λ (d : ℕ). decimal (n / 100) ++ (48 + d) ∷ (48 + n % 10) ∷ []) mid
     ∙ ap (λ (d : ℕ). decimal (n / 100) ++ (48 + n % 100 / 10) ∷ (48 + d) ∷ []) low
 
+-- and the last four after the others: two pairs
+pub decimal-last-four : (n : ℕ) → 10000 ≤ n → decimal n ≡ decimal (n / 10000) ++ (pair (n % 10000 / 100) ++ pair (n % 10000 % 100))
+decimal-last-four n h =
+    let hundred : 100 ≤ n = omega arith in
+    let more : 100 ≤ n / 100 = omega arith in
+    let high : n / 100 / 100 ≡ n / 10000 = omega arith in
+    let mid : n / 100 % 100 ≡ n % 10000 / 100 = omega arith in
+    let low : n % 100 ≡ n % 10000 % 100 = omega arith in
+    decimal-last-two n hundred
+    ∙ ap (λ (ds : List ℕ). ds ++ pair (n % 100)) (decimal-last-two (n / 100) more)
+    ∙ append-assoc (decimal (n / 100 / 100)) (pair (n / 100 % 100)) (pair (n % 100))
+    ∙ ap (λ (k : ℕ). decimal k ++ (pair (n / 100 % 100) ++ pair (n % 100))) high
+    ∙ ap (λ (k : ℕ). decimal (n / 10000) ++ (pair k ++ pair (n % 100))) mid
+    ∙ ap (λ (k : ℕ). decimal (n / 10000) ++ (pair (n % 10000 / 100) ++ pair k)) low
+
 pub digit-length : (n : ℕ) → n < 10 → length (decimal n) ≡ 1
 digit-length n h = ap length (decimal-digit n h)
 
@@ -77,7 +93,11 @@ pub pair-length : (n : ℕ) → 10 ≤ n → n < 100 → length (decimal n) ≡ 
 pair-length n h l = ap length (decimal-pair n h l)
 
 pub last-two-length : (n : ℕ) → 100 ≤ n → length (decimal n) ≡ length (decimal (n / 100)) + 2
-last-two-length n h = ap length (decimal-last-two n h) ∙ length-append (decimal (n / 100)) ((48 + n % 100 / 10) ∷ (48 + n % 100 % 10) ∷ [])
+last-two-length n h = ap length (decimal-last-two n h) ∙ length-append (decimal (n / 100)) (pair (n % 100))
+
+pub last-four-length : (n : ℕ) → 10000 ≤ n → length (decimal n) ≡ length (decimal (n / 10000)) + 4
+last-four-length n h =
+    ap length (decimal-last-four n h) ∙ length-append (decimal (n / 10000)) (pair (n % 10000 / 100) ++ pair (n % 10000 % 100))
 
 -- a number below 10 ^ (k + 1) has at most k + 1 digits
 pub decimal-length : (k n : ℕ) → n < 10 ^ suc k → length (decimal n) ≤ suc k

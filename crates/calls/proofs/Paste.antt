@@ -68,6 +68,13 @@ puts-join {a} {b} {c} {t} {u} {at} {mid} {end} p q =
       ends = omega arith;
     }
 
+pub puts-two : (xs : List ℕ) (at : ℕ) {b c d e : ℕ} → at + 2 ≤ length xs → b ≡ d → c ≡ e
+    → Puts xs (set (set xs at b) (at + 1) c) at (at + 2) (d ∷ e ∷ [])
+puts-two xs at {b} {c} h p q =
+    let same : length (set xs at b) ≡ length xs = length-set xs at b in
+    let two : at + 1 + 1 ≡ at + 2 = omega arith in
+    rw (← p, ← q, ← two) (puts-join (puts-byte xs at b (omega arith)) (puts-byte (set xs at b) (at + 1) c (omega arith)))
+
 -- the same put, of an equal text
 pub puts-as : {before later t u : List ℕ} {at end : ℕ} → t ≡ u → Puts before later at end t → Puts before later at end u
 puts-as {before} {later} {t} {u} {at} {end} e p = subst (Puts before later at end) e p

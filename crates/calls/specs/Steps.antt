@@ -3,9 +3,10 @@
 --   pasted at t xs              xs with the text t from place at on
 --   Puts before later at end t  a buffer was before and is later, as long as it was: the text t, which had room, went in from place at to
 --                               the place end
-use Prim.Native.Nat.{ℕ, _+_, _≤_}
+--   pair n                      the two digits of a number below 100
+use Prim.Native.Nat.{ℕ, _+_, _/_, _%_, _≤_}
 use mathlib.Core.Path.{_≡_}
-use mathlib.Core.List.{List, _++_}
+use mathlib.Core.List.{List, [], _∷_, _++_}
 use lib.ListN.{length, take, drop}
 
 unfoldable pub pasted : ℕ → List ℕ → List ℕ → List ℕ
@@ -16,3 +17,6 @@ pub record Puts (before later : List ℕ) (at end : ℕ) (t : List ℕ) : Type 0
   pub put : later ≡ pasted at t before
   pub kept : length later ≡ length before
   pub ends : end ≡ at + length t
+
+abbrev pub pair : ℕ → List ℕ
+pair n = (48 + n / 10) ∷ (48 + n % 10) ∷ []

@@ -20,7 +20,7 @@ ghost use Rattle.group.specs.Calls.{openOf};
 ghost use Rattle.engine.specs.Machine.{toldApplied, applyOf};
 ghost use Rattle.calls.specs.Records.{lowFirst, recordAt, usesCell, unusedZero, requestOf, toldAnswered, afterApply, afterOpen, stepOf};
 ghost use Rattle.calls.specs.Text.{decimal, after, levelText, numbersOf, lineOf, lines, allPulses, leftLine, sumLine, room, printed};
-ghost use Rattle.calls.specs.Steps.{Puts};
+ghost use Rattle.calls.specs.Steps.{Puts, pair};
 
 const BLANK: u8 = 32;
 
@@ -357,25 +357,45 @@ fn put_after(out: &mut [u8], at: usize, mark: u8, n: u64) -> usize
     put_number(out, end, n)
 }
 
-// A number in base ten: its last two digits come after the others. A level has four digits at most, and is put without recursion.
+// A number in base ten. Most have four digits at most, and are put without recursion.
 fn put_number(out: &mut [u8], at: usize, n: u64) -> usize
     requires { ⌜ at + length (decimal n) ≤ length (now out) ⌝ }
+    ensures { λ r. ⌜ Puts (now (out .entry)) (now (out .exit)) at r (decimal n) ⌝ }
+{
+    if n < 10000 {
+        return put_short(out, at, n as u32);
+    }
+    put_long(out, at, n)
+}
+
+// A number of five digits or more: the last four come after the others.
+fn put_long(out: &mut [u8], at: usize, n: u64) -> usize
+    requires { ⌜ (10000 ≤ n) × (at + length (decimal n) ≤ length (now out)) ⌝ }
+    ensures { λ r. ⌜ Puts (now (out .entry)) (now (out .exit)) at r (decimal n) ⌝ }
+{
+    let high = n / 10000;
+    let end = if high < 10000 {
+        put_short(out, at, high as u32)
+    } else {
+        put_long(out, at, high)
+    };
+    put_four(out, end, (n % 10000) as u32)
+}
+
+// A number of four digits at most.
+fn put_short(out: &mut [u8], at: usize, n: u32) -> usize
+    requires { ⌜ (n < 10000) × (at + length (decimal n) ≤ length (now out)) ⌝ }
     ensures { λ r. ⌜ Puts (now (out .entry)) (now (out .exit)) at r (decimal n) ⌝ }
 {
     if n < 100 {
         return put_small(out, at, n);
     }
-    let high = n / 100;
-    if high < 100 {
-        let end = put_small(out, at, high);
-        return put_pair(out, end, n % 100);
-    }
-    let end = put_number(out, at, high);
+    let end = put_small(out, at, n / 100);
     put_pair(out, end, n % 100)
 }
 
 // A number of one digit or two.
-fn put_small(out: &mut [u8], at: usize, n: u64) -> usize
+fn put_small(out: &mut [u8], at: usize, n: u32) -> usize
     requires { ⌜ (n < 100) × (at + length (decimal n) ≤ length (now out)) ⌝ }
     ensures { λ r. ⌜ Puts (now (out .entry)) (now (out .exit)) at r (decimal n) ⌝ }
 {
@@ -385,16 +405,27 @@ fn put_small(out: &mut [u8], at: usize, n: u64) -> usize
     put_pair(out, at, n)
 }
 
-// Two digits.
-fn put_pair(out: &mut [u8], at: usize, n: u64) -> usize
-    requires { ⌜ (n < 100) × (at + 2 ≤ length (now out)) ⌝ }
-    ensures { λ r. ⌜ Puts (now (out .entry)) (now (out .exit)) at r ((48 + n / 10) ∷ (48 + n % 10) ∷ []) ⌝ }
+// Four digits.
+fn put_four(out: &mut [u8], at: usize, n: u32) -> usize
+    requires { ⌜ (n < 10000) × (at + 4 ≤ length (now out)) ⌝ }
+    ensures { λ r. ⌜ Puts (now (out .entry)) (now (out .exit)) at r (pair (n / 100) ++ pair (n % 100)) ⌝ }
 {
-    let end = put_byte(out, at, digit(n / 10));
-    put_byte(out, end, digit(n % 10))
+    let end = put_pair(out, at, n / 100);
+    put_pair(out, end, n % 100)
 }
 
-fn digit(n: u64) -> u8
+// Two digits: one number holds both, so that the compiler makes one store of the two.
+fn put_pair(out: &mut [u8], at: usize, n: u32) -> usize
+    requires { ⌜ (n < 100) × (at + 2 ≤ length (now out)) ⌝ }
+    ensures { λ r. ⌜ Puts (now (out .entry)) (now (out .exit)) at r (pair n) ⌝ }
+{
+    let both = 12336 + n / 10 + 256 * (n % 10);
+    out[at] = (both % 256) as u8;
+    out[at + 1] = (both / 256) as u8;
+    at + 2
+}
+
+fn digit(n: u32) -> u8
     requires { ⌜ n < 10 ⌝ }
     ensures { λ r. ⌜ r ≡ 48 + n ⌝ }
 {

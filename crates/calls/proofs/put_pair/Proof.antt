@@ -1,37 +1,46 @@
 -- `calls::put_pair` meets its contract.
 -- Assumes nothing.
 use borrow.Author.Needs.{needs}
-use mathlib.Core.Path.{ap, _∙_}
-use Prim.Native.Nat.{ℕ, _+_, _/_}
-use mathlib.Core.List.{[], _∷_}
-use Rattle.calls.proofs.Paste.{puts-join, puts-as}
+use native.Mathlib.Omega.{arith}
+use lib.ListN.{length-set}
+use Rattle.calls.proofs.Paste.{puts-two}
 use Rattle.calls.proofs.put_pair.Statement.{statement}
 use Rattle.calls.proofs.put_pair.Tie as tie
 
-digit-requires : tie.Need-digit-requires
-digit-requires c κs = search needs
+add-both : tie.Need-add-both
+add-both c = search needs
 
-put-byte-requires : tie.Need-put-byte-requires
-put-byte-requires c κs = search needs
+mul-both : tie.Need-mul-both
+mul-both c = search needs
 
-digit-requires-2 : tie.Need-digit-requires-2
-digit-requires-2 c κs = search needs
+add-both-2 : tie.Need-add-both-2
+add-both-2 c = search needs
 
-put-byte-requires-2 : tie.Need-put-byte-requires-2
-put-byte-requires-2 c κs = search needs
+cast-out : tie.Need-cast-out
+cast-out c = search needs
 
-returns : tie.Need-returns
-returns c =
-    let l = c .before .before in
-    let h = l .before .before .before .before .before in
-    let n = h .before .before .before .before .args .n in
-    puts-as
-    (ap (λ (d : ℕ). d ∷ l .before .digit2 .result ∷ []) (h .before .digit .ensures) ∙ ap (λ (d : ℕ). (48 + n / 10) ∷ d ∷ []) (l .before .digit2 .ensures))
-    (puts-join (h .put-byte .ensures) (l .put-byte2 .ensures))
+slice-write-out : tie.Need-slice-write-out
+slice-write-out c = search needs
+
+cast-out-2 : tie.Need-cast-out-2
+cast-out-2 c = search needs
+
+add-out : tie.Need-add-out
+add-out c = search needs
+
+slice-write-out-2 : tie.Need-slice-write-out-2
+slice-write-out-2 c = simp length-set (omega arith)
+
+add-result : tie.Need-add-result
+add-result c = search needs
 
 same-length : tie.Need-same-length
-same-length c = returns c .kept
+same-length c = search needs
+
+returns : tie.Need-returns
+returns c = puts-two _ _ (c .pre .1) (omega arith) (omega arith)
 
 pub put-pair-spec : {M : Type 1} → statement M
 put-pair-spec =
-    tie.close (tie.spec digit-requires put-byte-requires digit-requires-2 put-byte-requires-2 same-length returns)
+    tie.close
+    (tie.spec add-both mul-both add-both-2 cast-out slice-write-out cast-out-2 add-out slice-write-out-2 add-result same-length returns)
