@@ -2,9 +2,11 @@
 // `run`, a whole input turned into the text that the program prints, with an equation for its answer and one for the lent buffer. Proved
 // besides: the printed example (proofs/Example), and that the records from a group up to the next open are a list of calls of demand 3 (proofs/Course).
 use engine::Applied;
-use engine::Call;
 use engine::Kind;
+use engine::ReadAnswer;
+use group::Changed;
 use group::Group;
+use group::Written;
 use order::Cell;
 use order::Order;
 use order::Outcome;
@@ -13,12 +15,14 @@ ghost use mathlib.Core.Path.{_≡_};
 ghost use mathlib.Core.List.{[], _∷_, _++_};
 ghost use Prim.Native.Nat.{_+_, _*_, _/_, _%_, _≤_, _<_, min};
 ghost use lib.ListN.{length, take, drop};
+ghost use Rattle.order.specs.Refusals.{outcomeNumber};
 ghost use Rattle.order.specs.Cells.{tabulate};
 ghost use Rattle.order.specs.Order.{noOrder};
 ghost use Rattle.group.specs.Record.{noGroup};
-ghost use Rattle.group.specs.Calls.{openOf};
-ghost use Rattle.engine.specs.Machine.{toldApplied, applyOf};
-ghost use Rattle.calls.specs.Records.{lowFirst, recordAt, usesCell, unusedZero, requestOf, toldAnswered, afterApply, afterOpen, stepOf};
+ghost use Rattle.group.specs.Calls.{toldChanged, toldWritten, openOf};
+ghost use Rattle.engine.specs.Calls.{toldRead};
+ghost use Rattle.engine.specs.Machine.{toldApplied, afterProgram, afterChange, afterRead, applyOf};
+ghost use Rattle.calls.specs.Records.{lowFirst, recordAt, usesCell, unusedZero, requestOf, toldAnswered, groupAlone, afterApply, afterOpen, stepOf};
 ghost use Rattle.calls.specs.Text.{decimal, after, levelText, numbersOf, lineOf, lines, allPulses, leftLine, sumLine, room, printed};
 ghost use Rattle.calls.specs.Steps.{Puts, pair};
 
@@ -68,12 +72,7 @@ pub fn step(g: Group, r: CallRecord) -> Answered
 {
     let request = request_of(r);
     match request {
-        Request::Bad => Answered {
-            outcome: Outcome::Refused(Refusal::BadRecord),
-            group: g,
-            symbol: 0,
-            pulses: 0,
-        },
+        Request::Bad => alone(Outcome::Refused(Refusal::BadRecord), g),
         Request::Open(n) => open(g, n),
         Request::Apply(kind) => apply(g, kind),
     }
@@ -163,6 +162,37 @@ fn open(g: Group, n: u32) -> Answered
         let fresh = opened.group;
         group = fresh;
     }
+    alone(outcome, group)
+}
+
+// A call of the machine. None of the kinds here has an order, so that a write has the empty one.
+fn apply(g: Group, kind: Kind) -> Answered
+    ensures { λ a. ⌜ toldAnswered a ≡ afterApply (applyOf g (record { kind = kind; target = noOrder })) ⌝ }
+{
+    match kind {
+        Kind::Write => from_written(group::write(g, no_order()), 0),
+        Kind::Store(symbol) => from_written(engine::store(g, symbol), symbol),
+        Kind::Scrub => from_scrub(engine::scrub(g)),
+        Kind::Leak(cell, d) => from_changed(group::leak(g, cell, d)),
+        Kind::Wear(cell, cap) => from_changed(group::wear(g, cell, cap)),
+        Kind::Erase => from_changed(group::erase(g)),
+        Kind::Read => from_read(g, engine::read(g)),
+    }
+}
+
+fn no_order() -> Order
+    ensures { λ o. ⌜ o ≡ noOrder ⌝ }
+{
+    Order {
+        len: 0,
+        cells: [Cell(0); 12],
+    }
+}
+
+// An answer with the group and nothing else.
+fn alone(outcome: Outcome, group: Group) -> Answered
+    ensures { λ a. ⌜ toldAnswered a ≡ record { number = outcomeNumber outcome; value = groupAlone group } ⌝ }
+{
     Answered {
         outcome,
         group,
@@ -171,22 +201,59 @@ fn open(g: Group, n: u32) -> Answered
     }
 }
 
-// A call of the machine. None of the kinds here has an order.
-fn apply(g: Group, kind: Kind) -> Answered
-    ensures { λ a. ⌜ toldAnswered a ≡ afterApply (applyOf g (record { kind = kind; target = noOrder })) ⌝ }
+// What is kept of the answer of a write, or of a store of a symbol.
+fn from_written(answer: Written, symbol: u32) -> Answered
+    ensures { λ a. ⌜ toldAnswered a ≡ afterApply (afterProgram (toldWritten answer) symbol) ⌝ }
 {
-    let target = Order {
-        len: 0,
-        cells: [Cell(0); 12],
-    };
-    let applied = engine::apply(g, Call { kind, target });
-    let outcome = applied.outcome;
-    let group = applied.group;
+    let outcome = answer.outcome;
+    let group = answer.group;
+    let mut told: u32 = 0;
+    if let Outcome::Done = outcome {
+        told = symbol;
+    }
     Answered {
         outcome,
         group,
-        symbol: applied.symbol,
-        pulses: applied.pulses,
+        symbol: told,
+        pulses: answer.pulses,
+    }
+}
+
+// What is kept of the answer of a scrub.
+fn from_scrub(answer: Applied) -> Answered
+    ensures { λ a. ⌜ toldAnswered a ≡ afterApply (toldApplied answer) ⌝ }
+{
+    let outcome = answer.outcome;
+    let group = answer.group;
+    Answered {
+        outcome,
+        group,
+        symbol: answer.symbol,
+        pulses: answer.pulses,
+    }
+}
+
+// What is kept of the answer of leak, wear or erase.
+fn from_changed(answer: Changed) -> Answered
+    ensures { λ a. ⌜ toldAnswered a ≡ afterApply (afterChange (toldChanged answer)) ⌝ }
+{
+    let outcome = answer.outcome;
+    let group = answer.group;
+    alone(outcome, group)
+}
+
+// What is kept of the answer of a read of a group, which stays as it is.
+fn from_read(g: Group, answer: ReadAnswer) -> Answered
+    ensures { λ a. ⌜ toldAnswered a ≡ afterApply (afterRead g (toldRead answer)) ⌝ }
+{
+    match answer {
+        ReadAnswer::Refused(refusal) => alone(Outcome::Refused(refusal), g),
+        ReadAnswer::Read { symbol, verdict: _ } => Answered {
+            outcome: Outcome::Done,
+            group: g,
+            symbol,
+            pulses: 0,
+        },
     }
 }
 

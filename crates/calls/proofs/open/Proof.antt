@@ -1,7 +1,8 @@
 -- `calls::open` meets its contract.
 -- Assumes nothing.
 use borrow.Author.Needs.{needs}
-use mathlib.Core.Path.{_≡_, refl, sym, ap}
+use mathlib.Core.Path.{_≡_, refl, sym, ap, _∙_}
+use mathlib.Core.Logic.{inl, inr}
 use Rattle.order.specs.Refusals.{refusalNumber}
 use Rattle.order.proofs.Refusals.{refused-zeros}
 use Rattle.group.specs.declared.Group.{Group}
@@ -19,21 +20,24 @@ enum-told c = search needs
 enum-told-2 : tie.Need-enum-told-2
 enum-told-2 c = search needs
 
+alone-requires : tie.Need-alone-requires
+alone-requires c κs = search needs
+
 returns : tie.Need-returns
 returns c =
-    let o = c .before .before .before in
+    let j = c .before in
+    let o = j .before in
     let e : toldChanged (o .«open» .result) ≡ openOf (o .before .args .n) = o .«open» .ensures in
-    rw (sym e, c .before .enum-told .given .1) refl
-
-returns-2 : tie.Need-returns-2
-returns-2 c =
-    let o = c .before .before in
-    let e : toldChanged (o .«open» .result) ≡ openOf (o .before .args .n) = o .«open» .ensures in
-    let told = c .enum-told2 .given in
-    rw (sym e, told .1)
-    (ap
-    (λ (h : Group). record { number = refusalNumber (told .0 .0); value = groupAlone h })
-    (sym (refused-zeros {A = Group} (told .0 .0) (o .«open» .result .group) (o .before .args .g))))
+    c .alone .ensures
+    ∙ elim (j .match .came) [
+      | inl d ↦ rw (sym e, d .3, d .1 .given .1) refl
+      | inr r ↦
+          let told = r .1 .given in
+          rw (sym e, r .2, told .1)
+          (ap
+          (λ (h : Group). record { number = refusalNumber (told .0 .0); value = groupAlone h })
+          (sym (refused-zeros {A = Group} (told .0 .0) (o .«open» .result .group) (o .before .args .g))))
+    ]
 
 pub open-spec : {M : Type 1} → statement M
-open-spec = tie.close (tie.spec open-requires enum-told enum-told-2 returns returns-2)
+open-spec = tie.close (tie.spec open-requires enum-told enum-told-2 alone-requires returns)

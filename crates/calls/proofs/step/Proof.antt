@@ -19,6 +19,9 @@ request-of-requires c κs = search needs
 enum-told : tie.Need-enum-told
 enum-told c = search needs
 
+alone-requires : tie.Need-alone-requires
+alone-requires c κs = search needs
+
 enum-known-request : tie.Need-enum-known-request
 enum-known-request c = search needs
 
@@ -32,7 +35,9 @@ apply-requires : tie.Need-apply-requires
 apply-requires c κs = search needs
 
 returns : tie.Need-returns
-returns c = by-request _ _ _ (c .before .before .request-of .ensures) (c .enum-told .given .1)
+returns c =
+    let k = c .before in
+    c .alone .ensures ∙ by-request _ _ _ (k .before .before .request-of .ensures) (k .enum-told .given .1)
 
 returns-2 : tie.Need-returns-2
 returns-2 c =
@@ -47,4 +52,4 @@ returns-3 c =
 pub step-spec : {M : Type 1} → statement M
 step-spec =
     tie.close
-    (tie.spec request-of-requires enum-told enum-known-request open-requires enum-known-request-2 apply-requires returns returns-2 returns-3)
+    (tie.spec request-of-requires enum-told alone-requires enum-known-request open-requires enum-known-request-2 apply-requires returns returns-2 returns-3)
