@@ -2,14 +2,14 @@
 -- Assumes nothing.
 use Prim.Native.Nat.{ℕ, zero, suc, _+_, _-_, _<_, _≤_}
 use mathlib.Core.Path.{_≡_, refl, _∙_}
-use mathlib.Core.Bool.{true, _&&_}
+use mathlib.Core.Bool.{Bool, true, false, _&&_}
 use mathlib.Core.List.{List, [], _∷_, _++_}
 use native.Mathlib.Nat.{sub-zero, zero-sub, suc-sub-suc, le-refl, le-trans}
 use native.Mathlib.Omega.{arith}
 use lib.Dec.{leb}
 use lib.ListN.{length, getD, drop, replicate, length-replicate}
 use lib.Seq.{drop-at}
-use borrow.Author.Tests.{leb-true, le-leb}
+use borrow.Author.Tests.{leb-true, le-leb, lt-leb}
 use Rattle.order.proofs.Cells.{both}
 use Rattle.order.proofs.Numbers.{drop-up}
 use Rattle.group.specs.Levels.{level, AtMost, empty, more, atMost}
@@ -30,6 +30,23 @@ pub drop-replicate : (i n v : ℕ) → drop i (replicate n v) ≡ replicate (n -
 drop-replicate zero n v = simp sub-zero
 drop-replicate (suc i) zero v = simp zero-sub
 drop-replicate (suc i) (suc n) v = drop-replicate i n v ∙ simp suc-sub-suc
+
+-- ---- a flag that falls where a place fails its test
+
+module _ (flag left : Bool) {next : Bool} {x m : ℕ} where
+  pub flag-falls : m < x → next ≡ false → (next && left) ≡ (flag && (leb x m && left))
+  flag-falls l e = rw (e, lt-leb x m l) (fallen flag)
+    where
+      fallen : (b : Bool) → false ≡ (b && false)
+      fallen true = refl
+      fallen false = refl
+
+  pub flag-stays : x ≤ m → next ≡ flag → (next && left) ≡ (flag && (leb x m && left))
+  flag-stays l e = rw (e, le-leb x m l)
+
+pub flag-ends : (flag : Bool) → (flag && true) ≡ flag
+flag-ends true = refl
+flag-ends false = refl
 
 -- ---- numbers up to m
 
