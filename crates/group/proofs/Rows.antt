@@ -1,25 +1,23 @@
 -- Laws of rows: lists of levels or caps that a loop reads place by place.
 -- Assumes nothing.
-use Prim.Native.Nat.{ℕ, zero, suc, _+_, _-_, _<_, _≤_}
-use mathlib.Core.Path.{_≡_, refl, _∙_}
-use mathlib.Core.Bool.{Bool, true, false, _&&_}
+use Prim.Native.Nat.{ℕ, zero, suc, _+_, _-_, _^_, _<_, _≤_}
+use mathlib.Core.Path.{_≡_, refl, sym, ap, ap₂, _∙_}
+use mathlib.Core.Bool.{Bool, true, false, _&&_, cond}
+use mathlib.Core.Logic.{⊎-elim}
 use mathlib.Core.List.{List, [], _∷_, _++_}
 use native.Mathlib.Nat.{sub-zero, zero-sub, suc-sub-suc, le-refl, le-trans}
 use native.Mathlib.Omega.{arith}
-use lib.Dec.{leb}
-use lib.ListN.{length, getD, drop, replicate, length-replicate}
-use lib.Seq.{drop-at}
-use borrow.Author.Tests.{leb-true, le-leb, lt-leb}
-use Rattle.order.proofs.Cells.{both}
+use lib.Bits.{bitOr, and-le-l, and-le-r, or-lt, or-add-and}
+use lib.Dec.{leb, ltb}
+use lib.ListN.{length, getD, drop, replicate, length-replicate, getD-replicate, List·getD-append}
+use lib.Seq.{drop-at, getD-append-add}
+use borrow.Author.Tests.{leb-true, leb-false, le-leb, lt-leb}
+use Rattle.order.proofs.Cells.{both, lt-cases}
 use Rattle.order.proofs.Numbers.{drop-up}
 use Rattle.group.specs.Levels.{level, AtMost, empty, more, atMost}
 use Rattle.group.specs.Record.{allAtMost, isRow}
 
 -- ---- the places from i on
-
-pub all-at-most-step : (m i : ℕ) (xs : List ℕ) → i < length xs → allAtMost m (drop i xs) ≡ (leb (getD xs i 0) m && allAtMost m (drop (i + 1) xs))
-unfolding allAtMost
-all-at-most-step m i xs inside = rw (drop-up xs i inside)
 
 pub at-most-step : (i : ℕ) (ls cs : List ℕ) → i < length ls → i < length cs
     → atMost (drop i ls) (drop i cs) ≡ (leb (getD ls i 0) (getD cs i 0) && atMost (drop (i + 1) ls) (drop (i + 1) cs))
@@ -33,13 +31,13 @@ drop-replicate (suc i) (suc n) v = drop-replicate i n v ∙ simp suc-sub-suc
 
 -- ---- a flag that falls where a place fails its test
 
+and-false : (b : Bool) → (b && false) ≡ false
+and-false true = refl
+and-false false = refl
+
 module _ (flag left : Bool) {next : Bool} {x m : ℕ} where
   pub flag-falls : m < x → next ≡ false → (next && left) ≡ (flag && (leb x m && left))
-  flag-falls l e = rw (e, lt-leb x m l) (fallen flag)
-    where
-      fallen : (b : Bool) → false ≡ (b && false)
-      fallen true = refl
-      fallen false = refl
+  flag-falls l e = rw (e, lt-leb x m l, and-false flag)
 
   pub flag-stays : x ≤ m → next ≡ flag → (next && left) ≡ (flag && (leb x m && left))
   flag-stays l e = rw (e, le-leb x m l)
@@ -77,6 +75,82 @@ all-append : (m k v : ℕ) (ys : List ℕ) → v ≤ m → allAtMost m ys ≡ tr
 unfolding allAtMost
 all-append m zero v ys h e = e
 all-append m (suc k) v ys h e = rw (le-leb v m h) (all-append m k v ys h e)
+
+-- ---- rows, place by place
+
+-- the limit of place i of a row: 4,095 up to n places, and 0 beyond
+abbrev pub limit : ℕ → ℕ → ℕ
+limit n i = cond (ltb i n) 4095 0
+
+-- a row of limits from place 12 - n on
+pub limit-at : (n i : ℕ) → n ≤ 12 → i < 12 → getD (replicate 12 4095 ++ replicate 12 0) (12 - n + i) 0 ≡ limit n i
+limit-at n i l h =
+    let full : List ℕ = replicate 12 4095 in
+    let clear : List ℕ = replicate 12 0 in
+    ⊎-elim
+    (λ t. rw (t .1) (List·getD-append full clear 0 (12 - n + i) (omega arith) ∙ getD-replicate 12 (12 - n + i) 4095 0 (omega arith)))
+    (λ t.
+    let e : 12 - n + i ≡ 12 + (i - n) = omega arith in
+    rw (t .1, e) (getD-append-add full clear (i - n) 0 ∙ getD-replicate 12 (i - n) 0 0 (omega arith)))
+    (lt-cases i n)
+
+regroup : (p q r s : Bool) → ((p && q) && (r && s)) ≡ ((p && r) && (q && s))
+regroup false q r s = refl
+regroup true q true s = refl
+regroup true true false s = refl
+regroup true false false s = refl
+
+first-in : (k x : ℕ) (xs : List ℕ) → isRow (suc k) (x ∷ xs) ≡ (leb x 4095 && isRow k xs)
+unfolding isRow allAtMost
+first-in k x xs = regroup (leb x 4095) (allAtMost 4095 xs) true (allAtMost 0 (drop k xs)) ∙ rw (flag-ends (leb x 4095))
+
+first-past : (x : ℕ) (xs : List ℕ) → isRow 0 (x ∷ xs) ≡ (leb x 0 && isRow 0 xs)
+unfolding isRow allAtMost
+first-past x xs = regroup (leb x 4095) (allAtMost 4095 xs) (leb x 0) (allAtMost 0 xs) ∙ ap (λ (b : Bool). b && isRow 0 xs) (least (leb x 0) refl)
+  where
+    least : (b : Bool) → leb x 0 ≡ b → (leb x 4095 && b) ≡ b
+    least true e = rw (le-leb x 4095 (omega (arith, leb-true x 0 e)))
+    least false e = and-false (leb x 4095)
+
+row-step : (n i : ℕ) (xs : List ℕ) → i < length xs → isRow (n - i) (drop i xs) ≡ (leb (getD xs i 0) (limit n i) && isRow (n - (i + 1)) (drop (i + 1) xs))
+row-step n i xs inside =
+    ⊎-elim
+    (λ t. let e : n - i ≡ suc (n - (i + 1)) = omega arith in rw (t .1, drop-up xs i inside, e) (first-in _ _ _))
+    (λ t.
+    let e : n - i ≡ 0 = omega arith in
+    let f : n - (i + 1) ≡ 0 = omega arith in
+    rw (t .1, drop-up xs i inside, e, f) (first-past _ _))
+    (lt-cases i n)
+
+-- a limit is one less than a power of two, so that two numbers are at most it where their `|` is
+or-at-most : (k m a b : ℕ) → m + 1 ≡ 2 ^ k → leb (bitOr a b) m ≡ (leb a m && leb b m)
+or-at-most k m a b e = go (leb a m) refl (leb b m) refl
+  where
+    go : (p : Bool) → leb a m ≡ p → (q : Bool) → leb b m ≡ q → leb (bitOr a b) m ≡ (p && q)
+    go true f true g = le-leb (bitOr a b) m (omega (arith, e, or-lt k a b (omega (arith, e, leb-true a m f)) (omega (arith, e, leb-true b m g))))
+    go true f false g = lt-leb (bitOr a b) m (omega (arith, leb-false b m g, or-add-and a b, and-le-l a b))
+    go false f q g = lt-leb (bitOr a b) m (omega (arith, leb-false a m f, or-add-and a b, and-le-r a b))
+
+-- the places from i on of both rows
+abbrev pub rowsFrom : ℕ → ℕ → List ℕ → List ℕ → Bool
+rowsFrom n i ls cs = isRow (n - i) (drop i ls) && isRow (n - i) (drop i cs)
+
+pub rows-step : (n i : ℕ) (ls cs : List ℕ) → i < length ls → i < length cs
+    → rowsFrom n i ls cs ≡ (leb (bitOr (getD ls i 0) (getD cs i 0)) (limit n i) && rowsFrom n (i + 1) ls cs)
+rows-step n i ls cs l c =
+    ap₂ _&&_ (row-step n i ls l) (row-step n i cs c)
+    ∙ regroup (leb x (limit n i)) (isRow (n - (i + 1)) (drop (i + 1) ls)) (leb y (limit n i)) (isRow (n - (i + 1)) (drop (i + 1) cs))
+    ∙ ap (λ (b : Bool). b && rowsFrom n (i + 1) ls cs) (sym (together (ltb i n)))
+  where
+    x : ℕ
+    x = getD ls i 0
+
+    y : ℕ
+    y = getD cs i 0
+
+    together : (b : Bool) → leb (bitOr x y) (cond b 4095 0) ≡ (leb x (cond b 4095 0) && leb y (cond b 4095 0))
+    together true = or-at-most 12 4095 x y refl
+    together false = or-at-most 0 0 x y refl
 
 -- ---- rows
 
