@@ -14,7 +14,7 @@ use lib.Seq.{drop-at, getD-append-add}
 use borrow.Author.Tests.{leb-true, leb-false, le-leb, lt-leb}
 use Rattle.order.proofs.Cells.{both, lt-cases}
 use Rattle.order.proofs.Numbers.{drop-up}
-use Rattle.group.specs.Levels.{level, AtMost, empty, more, atMost}
+use Rattle.group.specs.Levels.{AtMost, empty, more, atMost}
 use Rattle.group.specs.Record.{allAtMost, isRow}
 
 -- ---- the places from i on
@@ -53,10 +53,6 @@ unfolding allAtMost
 all-at m [] e i = omega arith
 all-at m (x ∷ xs) e zero = leb-true x m (both (leb x m) (allAtMost m xs) e .0)
 all-at m (x ∷ xs) e (suc i) = all-at m xs (both (leb x m) (allAtMost m xs) e .1) i
-
-pub all-level : (m : ℕ) (xs : List ℕ) → allAtMost m xs ≡ true → (c : ℕ) → level xs c ≤ m
-unfolding level
-all-level m xs e c = all-at m xs e (c - 1)
 
 all-below : {xs ys : List ℕ} (m : ℕ) → AtMost xs ys → allAtMost m ys ≡ true → allAtMost m xs ≡ true
 unfolding allAtMost
