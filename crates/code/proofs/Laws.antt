@@ -3,7 +3,7 @@
 use mathlib.Core.Path.{_≡_, sym, _∙_, subst}
 use mathlib.Core.Bool.{true, _&&_}
 use mathlib.Core.List.{List, []}
-use Prim.Native.Nat.{ℕ, _+_, _-_, _*_, _<_}
+use Prim.Native.Nat.{ℕ, _+_, _-_, _*_, _≤_, _<_}
 use native.Mathlib.Omega.{arith}
 use lib.Dec.{T, eqb}
 use lib.ListN.{length, getD}
@@ -46,6 +46,12 @@ module _ (n : ℕ) (pos : 0 < n) where
   pub K-entry : tails n 1 0 ≡ K n
   unfolding K tails words wordsFrom vectors
   K-entry = sym (count (modulus n) (omega arith) (n - 1) 1 0 (omega arith))
+
+  -- and so it is the first count of a block
+  pub first-count : {counts : List ℕ} → n ≤ 12 → 3 ≤ n → Block n counts → getD counts 0 0 ≡ K n
+  first-count h l b =
+      let start : (1 - 1) * modulus n + 0 ≡ 0 = omega arith in
+      rw start at (b .at 1 0 (record { low = l; high = h; first = omega arith; last = omega arith; residue = omega arith })) ∙ K-entry
 
   pub number-of-word : (s : ℕ) → s < K n → wordNumber n (wordAt n s) ≡ s
   unfolding wordNumber wordAt tails words wordsFrom vectors

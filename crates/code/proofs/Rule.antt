@@ -2,12 +2,12 @@
 -- Assumes nothing.
 use mathlib.Core.Path.{_≡_, ap, _∙_, fun-ext}
 use mathlib.Core.Bool.{_&&_}
-use mathlib.Core.List.{List, [], _++_}
+use mathlib.Core.List.{List, []}
 use Prim.Native.Nat.{ℕ, zero, suc, _+_, _-_, _*_, _^_, _≤_, _<_}
 use native.Mathlib.Nat.{suc-mul, mul-le-mul-right, le-refl, mod-lt}
 use native.Mathlib.Omega.{arith}
 use lib.Dec.{T, eqb, ltb, leb, eqb→eq, leb→le, ltb→lt}
-use lib.ListN.{length, getD, List·getD-append}
+use lib.ListN.{length, getD}
 use borrow.Author.Tests.{lt-ltb, le-ltb}
 use Rattle.code.specs.declared.table.Table.{Table}
 use Rattle.code.specs.Words.{modulus}
@@ -16,7 +16,7 @@ use Rattle.code.specs.Table.{all, entry, due, blockRight, blocks, tableR
 use Rattle.code.proofs.Tests.{and-left, and-right, all-at}
 
 -- each entry's place is within the block's n rows, and so within the largest block
-within : (n i r : ℕ) → Entry n i r → (i - 1) * modulus n + r < n * modulus n
+pub within : (n i r : ℕ) → Entry n i r → (i - 1) * modulus n + r < n * modulus n
 within n i r e =
     let h : suc (i - 1) ≤ n = omega arith in
     omega (arith, mul-le-mul-right (modulus n) h, suc-mul (i - 1) (modulus n))
@@ -53,19 +53,25 @@ module _ (t : Table) (right : T (tableRight t)) (k : ℕ) (h : k < 10) where
   size = eqb→eq _ _ (and-left (eqb (length block) ((3 + k) * modulus (3 + k))) (blockRight block (3 + k)) whole)
 
   -- each entry of each block is the count that it stands for
-  rule : (i r : ℕ) → Entry (3 + k) i r → getD block ((i - 1) * modulus (3 + k) + r) 0 ≡ tails (3 + k) i r
+  pub rule : (n : ℕ) → n ≡ 3 + k → Block n block
   unfolding tails
-  rule i r e =
-      let start : suc (i - 1) ≡ i = omega arith in
-      rw start at (row block (3 + k) (omega arith) (and-right (eqb (length block) ((3 + k) * modulus (3 + k))) (blockRight block (3 + k)) whole) (3 + k - i) (i - 1) r (omega arith) (e .residue))
-
-  -- and so it is in a list that starts with the block
-  pub in-front : (n : ℕ) → n ≡ 3 + k → (xs ys : List ℕ) → xs ≡ block ++ ys → Block n xs
-  in-front n s xs ys q =
+  rule n s =
       rw s
       (record {
-        at = λ i r e. rw q (List·getD-append block ys 0 _ (omega (arith, size, within (3 + k) i r e)) ∙ rule i r e);
+        size = size;
+        at = λ i r e.
+            let start : suc (i - 1) ≡ i = omega arith in
+            rw start at (row block (3 + k) (omega arith) (and-right (eqb (length block) ((3 + k) * modulus (3 + k))) (blockRight block (3 + k)) whole) (3 + k - i) (i - 1) r (omega arith) (e .residue));
       })
+
+-- a number that is none of those from low to low + k - 1, as the last arm of a match knows it
+abbrev pub Skips : ℕ → ℕ → ℕ → Type 0
+Skips low zero n = Unit
+Skips low (suc k) n = Skips low k n × (n ≡ low + k → ⊥)
+
+pub past : (low k n : ℕ) → Skips low k n → low ≤ n → low + k ≤ n
+past low zero n s h = omega arith
+past low (suc k) n s h = omega (arith, past low k n (s .0) h, s .1)
 
 -- how many choices of k coordinates from coordinate i on there are
 ways : ℕ → ℕ → ℕ

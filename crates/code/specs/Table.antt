@@ -1,5 +1,5 @@
 -- Document 01's table of 1,215 counts: its rule, as one test over the whole table. The contracts of private functions cite it; that each entry
--- is then the count that it stands for is shown in proofs/Rule (`in-front`).
+-- is then the count that it stands for is shown in proofs/Rule (`rule`).
 --
 --   all test n            the test passes at each number below n
 --   entry block n j r     in the block of size n, the count of start j + 1 and residue r

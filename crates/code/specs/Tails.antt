@@ -9,11 +9,11 @@
 --   having n i r v     how many of them have coordinate i at v, for v from 0 to i
 --   before n i r v     how many of them have coordinate i below v
 --   Entry n i r        the table has such an entry: n from 3 to 12, start i from 1 to n, residue r below 2n - 1
---   Block n counts     the list starts with the counts of size n: for each start a row of 2n - 1 counts, by residue
+--   Block n counts     the counts of size n: for each start a row of 2n - 1 counts, by residue
 use mathlib.Core.Path.{_≡_}
 use mathlib.Core.List.{List}
 use Prim.Native.Nat.{ℕ, zero, suc, _+_, _-_, _*_, _%_, _≤_, _<_}
-use lib.ListN.{getD}
+use lib.ListN.{length, getD}
 use Rattle.code.specs.Words.{modulus}
 
 unfoldable pub sumBelow : (ℕ → ℕ) → ℕ → ℕ
@@ -48,4 +48,5 @@ pub record Entry (n i r : ℕ) : Type 0 where
   pub residue : r < modulus n
 
 pub record Block (n : ℕ) (counts : List ℕ) : Type 0 where
+  pub size : length counts ≡ n * modulus n
   pub at : (i r : ℕ) → Entry n i r → getD counts ((i - 1) * modulus n + r) 0 ≡ tails n i r

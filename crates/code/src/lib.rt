@@ -13,10 +13,9 @@ use order::Refusal;
 use table::Table;
 ghost use mathlib.Core.Path.{_≡_};
 ghost use mathlib.Core.Bool.{true};
-ghost use mathlib.Core.List.{_++_};
 ghost use Prim.Native.Nat.{_+_, _%_, _≤_, _<_};
 ghost use lib.Dec.{T};
-ghost use lib.ListN.{length, take, drop};
+ghost use lib.ListN.{take};
 ghost use Rattle.order.specs.Refusals.{isSize};
 ghost use Rattle.order.specs.Order.{listed, toldOrder};
 ghost use Rattle.code.specs.Words.{modulus, weight, K, wordAt, wordNumber};
@@ -67,9 +66,27 @@ pub fn words(n: usize) -> WordsAnswer
     if !order::is_size(n) {
         return WordsAnswer::Refused(Refusal::Size);
     }
-    let mut counts = [0u32; 276];
-    put_block(n, &mut counts);
-    WordsAnswer::Words(tail_count(&counts, n, 1, 0))
+    WordsAnswer::Words(words_of(n))
+}
+
+// K(n), for a size n: the first count of its block.
+fn words_of(n: usize) -> u32
+    requires { ⌜ isSize n ≡ true ⌝ }
+    ensures { λ k. ⌜ k ≡ K n ⌝ }
+{
+    let table = tail_counts();
+    match n {
+        3 => table.of_3[0],
+        4 => table.of_4[0],
+        5 => table.of_5[0],
+        6 => table.of_6[0],
+        7 => table.of_7[0],
+        8 => table.of_8[0],
+        9 => table.of_9[0],
+        10 => table.of_10[0],
+        11 => table.of_11[0],
+        _ => table.of_12[0],
+    }
 }
 
 // The codeword of a number, as an order.
@@ -79,16 +96,63 @@ pub fn codeword(n: usize, symbol: u32) -> OrderAnswer
     if !order::is_size(n) {
         return order::no_order(Refusal::Size);
     }
-    let mut counts = [0u32; 276];
-    put_block(n, &mut counts);
-    if tail_count(&counts, n, 1, 0) <= symbol {
+    if words_of(n) <= symbol {
         return order::no_order(Refusal::NoSymbol);
     }
-    coordinates::from_coordinates(word(&counts, n, symbol))
+    coordinates::from_coordinates(word(n, symbol))
 }
 
-// The coordinates of the codeword of a number.
-fn word(counts: &[u32; 276], n: usize, symbol: u32) -> Coordinates
+// The coordinates of the codeword of a number. Each arm calls for the table itself: the compiler then builds its block and leaves out the others.
+fn word(n: usize, symbol: u32) -> Coordinates
+    requires { ⌜ (isSize n ≡ true) × (symbol < K n) ⌝ }
+    ensures { λ x. ⌜ x ≡ held (wordAt n symbol) ⌝ }
+{
+    match n {
+        3 => {
+            let counts = tail_counts().of_3;
+            word_by(&counts, 3, symbol)
+        }
+        4 => {
+            let counts = tail_counts().of_4;
+            word_by(&counts, 4, symbol)
+        }
+        5 => {
+            let counts = tail_counts().of_5;
+            word_by(&counts, 5, symbol)
+        }
+        6 => {
+            let counts = tail_counts().of_6;
+            word_by(&counts, 6, symbol)
+        }
+        7 => {
+            let counts = tail_counts().of_7;
+            word_by(&counts, 7, symbol)
+        }
+        8 => {
+            let counts = tail_counts().of_8;
+            word_by(&counts, 8, symbol)
+        }
+        9 => {
+            let counts = tail_counts().of_9;
+            word_by(&counts, 9, symbol)
+        }
+        10 => {
+            let counts = tail_counts().of_10;
+            word_by(&counts, 10, symbol)
+        }
+        11 => {
+            let counts = tail_counts().of_11;
+            word_by(&counts, 11, symbol)
+        }
+        _ => {
+            let counts = tail_counts().of_12;
+            word_by(&counts, 12, symbol)
+        }
+    }
+}
+
+// The coordinates of the codeword of a number, by the counts of its size.
+fn word_by(counts: &[u32], n: usize, symbol: u32) -> Coordinates
     requires { ⌜ Block n (now counts) ⌝ }
     requires { ⌜ (isSize n ≡ true) × (symbol < K n) ⌝ }
     ensures { λ x. ⌜ x ≡ held (wordAt n symbol) ⌝ }
@@ -109,7 +173,7 @@ fn word(counts: &[u32; 276], n: usize, symbol: u32) -> Coordinates
 }
 
 // Coordinate i of the choice that is the given one among those of coordinates i to n - 1 that leave r.
-fn choose(counts: &[u32; 276], n: usize, i: usize, r: usize, number: u32) -> Choice
+fn choose(counts: &[u32], n: usize, i: usize, r: usize, number: u32) -> Choice
     requires { ⌜ Block n (now counts) ⌝ }
     requires { ⌜ Choosing n i r ⌝ }
     requires { ⌜ number < tails n i r ⌝ }
@@ -142,46 +206,12 @@ fn residue_after(n: usize, i: usize, r: usize) -> usize
 }
 
 // The number of ways to choose coordinates i to n - 1 whose weighted sum leaves r.
-fn tail_count(counts: &[u32; 276], n: usize, i: usize, r: usize) -> u32
+fn tail_count(counts: &[u32], n: usize, i: usize, r: usize) -> u32
     requires { ⌜ Block n (now counts) ⌝ }
     requires { ⌜ Entry n i r ⌝ }
     ensures { λ c. ⌜ c ≡ tails n i r ⌝ }
 {
     counts[(i - 1) * (2 * n - 1) + r]
-}
-
-// The block of size n, put into the first places of a lent array. A constant is built anew where it is used; the compiler leaves out the blocks
-// that an arm does not copy.
-fn put_block(n: usize, counts: &mut [u32; 276])
-    requires { ⌜ (isSize n ≡ true) × (length (now counts) ≡ 276) ⌝ }
-    ensures { λ _. ⌜ Block n (now (counts .exit)) ⌝ }
-{
-    let table = tail_counts();
-    match n {
-        3 => put(counts, &table.of_3),
-        4 => put(counts, &table.of_4),
-        5 => put(counts, &table.of_5),
-        6 => put(counts, &table.of_6),
-        7 => put(counts, &table.of_7),
-        8 => put(counts, &table.of_8),
-        9 => put(counts, &table.of_9),
-        10 => put(counts, &table.of_10),
-        11 => put(counts, &table.of_11),
-        12 => put(counts, &table.of_12),
-        _ => {}
-    }
-}
-
-// Counts put into the first places of a lent array.
-fn put(counts: &mut [u32; 276], block: &[u32])
-    requires { ⌜ (length (now counts) ≡ 276) × (length (now block) ≤ 276) ⌝ }
-    ensures { λ _. ⌜ now (counts .exit) ≡ now (block .entry) ++ drop (length (now (block .entry))) (now (counts .entry)) ⌝ }
-{
-    let mut k: usize = 0;
-    while k < block.len() {
-        counts[k] = block[k];
-        k += 1;
-    }
 }
 
 // The table of counts, which passes the test of its recurrence.
@@ -218,20 +248,69 @@ fn syndrome(x: Coordinates) -> usize
     sum % (2 * m + 1)
 }
 
-// The number of the codeword with these coordinates: the words before it, coordinate by coordinate.
+// The number of the codeword with these coordinates.
 fn number(x: Coordinates) -> u32
     requires { ⌜ (isSize (x .len + 1) ≡ true) × (isWord (x .len + 1) (take (x .len) (x .values)) ≡ true) ⌝ }
     ensures { λ s. ⌜ s ≡ wordNumber (x .len + 1) (take (x .len) (x .values)) ⌝ }
 {
+    let m = x.len;
+    match m {
+        2 => {
+            let counts = tail_counts().of_3;
+            number_by(&counts, x)
+        }
+        3 => {
+            let counts = tail_counts().of_4;
+            number_by(&counts, x)
+        }
+        4 => {
+            let counts = tail_counts().of_5;
+            number_by(&counts, x)
+        }
+        5 => {
+            let counts = tail_counts().of_6;
+            number_by(&counts, x)
+        }
+        6 => {
+            let counts = tail_counts().of_7;
+            number_by(&counts, x)
+        }
+        7 => {
+            let counts = tail_counts().of_8;
+            number_by(&counts, x)
+        }
+        8 => {
+            let counts = tail_counts().of_9;
+            number_by(&counts, x)
+        }
+        9 => {
+            let counts = tail_counts().of_10;
+            number_by(&counts, x)
+        }
+        10 => {
+            let counts = tail_counts().of_11;
+            number_by(&counts, x)
+        }
+        _ => {
+            let counts = tail_counts().of_12;
+            number_by(&counts, x)
+        }
+    }
+}
+
+// The number of the codeword with these coordinates, by the counts of its size: the words before it, coordinate by coordinate.
+fn number_by(counts: &[u32], x: Coordinates) -> u32
+    requires { ⌜ Block (x .len + 1) (now counts) ⌝ }
+    requires { ⌜ (isSize (x .len + 1) ≡ true) × (isWord (x .len + 1) (take (x .len) (x .values)) ≡ true) ⌝ }
+    ensures { λ s. ⌜ s ≡ wordNumber (x .len + 1) (take (x .len) (x .values)) ⌝ }
+{
     let n = x.len + 1;
-    let mut counts = [0u32; 276];
-    put_block(n, &mut counts);
     let mut sum: u32 = 0;
     let mut r: usize = 0;
     let mut i: usize = 1;
     while i < n {
         let v = x.values[i - 1] as usize;
-        let passed = pass(&counts, n, i, r, v);
+        let passed = pass(counts, n, i, r, v);
         sum += passed.count;
         r = passed.residue;
         i += 1;
@@ -240,7 +319,7 @@ fn number(x: Coordinates) -> u32
 }
 
 // The choices of coordinates i to n - 1 that leave r and have coordinate i below v.
-fn pass(counts: &[u32; 276], n: usize, i: usize, r: usize, v: usize) -> Passed
+fn pass(counts: &[u32], n: usize, i: usize, r: usize, v: usize) -> Passed
     requires { ⌜ Block n (now counts) ⌝ }
     requires { ⌜ Choosing n i r ⌝ }
     requires { ⌜ v ≤ i ⌝ }

@@ -1,6 +1,6 @@
 -- `code::codeword` meets its contract: the order of a word of the list is never refused.
 -- Assumes nothing.
-use mathlib.Core.Path.{_≡_, refl, sym, ap, _∙_}
+use mathlib.Core.Path.{_≡_, sym, ap, _∙_}
 use mathlib.Core.Bool.{true}
 use Prim.Native.Nat.{_<_, _≤_}
 use native.Mathlib.Omega.{arith}
@@ -12,7 +12,6 @@ use Rattle.order.proofs.Refusals.{check-fails, check-holds, told-refused, size-
 use Rattle.coordinates.specs.Calls.{orderOfCoordinates}
 use Rattle.code.specs.Words.{K}
 use Rattle.code.specs.Calls.{codewordOf}
-use Rattle.code.proofs.Laws.{K-entry}
 use Rattle.code.proofs.Answers.{codeword-answer}
 use Rattle.code.proofs.codeword.Statement.{statement}
 use Rattle.code.proofs.codeword.Tie as tie
@@ -32,21 +31,8 @@ returns c =
 sized : (c : tie.Else1) → isSize (c .before .before .args .n) ≡ true
 sized c = sym (c .before .is-size .ensures) ∙ not-false _ (c .if1 .left)
 
-put-block-requires : tie.Need-put-block-requires
-put-block-requires c κs = (sized (c .before), refl)
-
-tail-count-requires : tie.Need-tail-count-requires
-tail-count-requires c κs =
-    let (low, high) = size-true _ (sized (c .before .before .before)) in
-    (c .before .put-block .ensures, record { low = low; high = high; first = omega arith; last = omega arith; residue = omega arith })
-
--- the entry that was read is K(n)
-entry : (c : tie.After-tail-count) → c .tail-count .result ≡ K (c .before .before .before .before .before .before .args .n)
-entry c =
-    let d = c .before .before .before .before in
-    let n = d .before .before .args .n in
-    let (low, high) = size-true n (sized d) in
-    c .tail-count .ensures ∙ K-entry n (omega arith)
+words-of-requires : tie.Need-words-of-requires
+words-of-requires c κs = sized c
 
 no-order-requires-2 : tie.Need-no-order-requires-2
 no-order-requires-2 c κs = search needs
@@ -55,19 +41,17 @@ returns-2 : tie.Need-returns-2
 unfolding codewordOf
 returns-2 c =
     let d = c .before .before in
-    let s = d .before .before .before .before in
+    let s = d .before in
     let a = s .before .before .args in
-    let none : K (a .n) ≤ a .symbol = omega (arith, entry d) in
+    let none : K (a .n) ≤ a .symbol = omega (arith, d .words-of .ensures) in
     c .no-order2 .ensures ∙ told-refused _ _ _ NoSymbol (check-holds _ _ (sized s) ∙ check-fails _ _ (le-ltb (a .symbol) (K (a .n)) none))
 
 -- the symbol is below K(n)
-some : (c : tie.Else2) → let a = c .before .before .before .before .before .before .before .args in a .symbol < K (a .n)
-some c = omega (arith, entry (c .before))
+some : (c : tie.Else2) → let a = c .before .before .before .before .args in a .symbol < K (a .n)
+some c = omega (arith, c .before .words-of .ensures)
 
 word-requires : tie.Need-word-requires
-word-requires c κs =
-    let d = c .before .before .before .before in
-    (d .put-block .ensures, (sized (d .before .before), omega (arith, some (c .before))))
+word-requires c κs = (sized (c .before .before), some c)
 
 from-coordinates-requires : tie.Need-from-coordinates-requires
 from-coordinates-requires c κs = search needs
@@ -75,8 +59,8 @@ from-coordinates-requires c κs = search needs
 returns-3 : tie.Need-returns-3
 returns-3 c =
     let w = c .before in
-    let d = w .before .before in
-    let s = d .before .before .before .before .before in
+    let d = w .before in
+    let s = d .before .before in
     let n = s .before .before .args .n in
     let (low, high) = size-true n (sized s) in
     c .from-coordinates .ensures ∙ ap orderOfCoordinates (w .word .ensures) ∙ codeword-answer n _ low high (some d)
@@ -88,8 +72,7 @@ codeword-spec =
     is-size-requires
     no-order-requires
     returns
-    put-block-requires
-    tail-count-requires
+    words-of-requires
     no-order-requires-2
     returns-2
     word-requires

@@ -1,74 +1,92 @@
--- `code::number` meets its contract, by the invariant of Summing.
+-- `code::number` meets its contract: the arm of size 3 + k has block k of the table, which passed the test.
 -- Assumes nothing.
-use mathlib.Core.Path.{refl}
-use Prim.Native.Nat.{_+_, _-_}
+use mathlib.Core.Path.{_≡_}
+use Prim.Native.Nat.{_+_}
 use native.Mathlib.Omega.{arith}
 use borrow.Author.Needs.{needs}
 use Rattle.order.proofs.Refusals.{size-true}
-use Rattle.code.proofs.Summing.{Summing, start, step, end, choosing, sum-fits}
+use Rattle.code.proofs.Rule.{rule, past}
 use Rattle.code.proofs.number.Statement.{statement}
 use Rattle.code.proofs.number.Tie as tie
 
-abbrev Inv-loop : tie.InvT-loop
-Inv-loop x n counts sum₀ r₀ i₀ sum r i = Summing x sum r i
+-- the last arm's size
+last : (c : tie.At-match-rest) → c .before .args .x .len + 1 ≡ 12
+last c =
+    let m = c .before .args .x .len in
+    let (low, high) = size-true (m + 1) (c .before .pre .0) in
+    omega (arith, past 2 9 m (c .match .rest) (omega arith))
 
-abbrev μ-loop : tie.MeasureT-loop
-μ-loop x n counts sum₀ r₀ i₀ sum r i = n - i
+number-by-requires : tie.Need-number-by-requires
+number-by-requires c κs = (rule _ (c .before .before .tail-counts .ensures) 0 (omega arith) _ (omega arith), c .before .before .before .before .pre)
 
-add-n : tie.Need-add-n Inv-loop μ-loop
-add-n c =
-    omega (arith, size-true (c .args .t1 .len + 1) (c .pre .0))
+number-by-requires-2 : tie.Need-number-by-requires-2
+number-by-requires-2 c κs = (rule _ (c .before .before .tail-counts2 .ensures) 1 (omega arith) _ (omega arith), c .before .before .before .before .pre)
 
-put-block-requires : tie.Need-put-block-requires Inv-loop μ-loop
-put-block-requires c κs = (c .before .pre .0, refl)
+number-by-requires-3 : tie.Need-number-by-requires-3
+number-by-requires-3 c κs = (rule _ (c .before .before .tail-counts3 .ensures) 2 (omega arith) _ (omega arith), c .before .before .before .before .pre)
 
-loop-holds : tie.Need-loop-holds Inv-loop μ-loop
-loop-holds c = start _ (search needs) (c .before .before .pre .0) (c .before .before .pre .1)
+number-by-requires-4 : tie.Need-number-by-requires-4
+number-by-requires-4 c κs = (rule _ (c .before .before .tail-counts4 .ensures) 3 (omega arith) _ (omega arith), c .before .before .before .before .pre)
 
-sub-v : tie.Need-sub-v Inv-loop μ-loop
-sub-v c = omega arith
+number-by-requires-5 : tie.Need-number-by-requires-5
+number-by-requires-5 c κs = (rule _ (c .before .before .tail-counts5 .ensures) 4 (omega arith) _ (omega arith), c .before .before .before .before .pre)
 
-element-copy-out-v : tie.Need-element-copy-out-v Inv-loop μ-loop
-element-copy-out-v c = omega arith
+number-by-requires-6 : tie.Need-number-by-requires-6
+number-by-requires-6 c κs = (rule _ (c .before .before .tail-counts6 .ensures) 5 (omega arith) _ (omega arith), c .before .before .before .before .pre)
 
-cast-v : tie.Need-cast-v Inv-loop μ-loop
-cast-v c = search needs
+number-by-requires-7 : tie.Need-number-by-requires-7
+number-by-requires-7 c κs = (rule _ (c .before .before .tail-counts7 .ensures) 6 (omega arith) _ (omega arith), c .before .before .before .before .pre)
 
-pass-requires : tie.Need-pass-requires Inv-loop μ-loop
-pass-requires c κs =
-    let (at, range) = choosing _ _ _ _ (c .before .before .before .loop .inv) (omega arith) in
-    (c .before .before .before .before .put-block .ensures, (at, omega arith))
+number-by-requires-8 : tie.Need-number-by-requires-8
+number-by-requires-8 c κs = (rule _ (c .before .before .tail-counts8 .ensures) 7 (omega arith) _ (omega arith), c .before .before .before .before .pre)
 
-add-sum : tie.Need-add-sum Inv-loop μ-loop
-add-sum c = omega (arith, sum-fits _ _ _ _ (c .before .before .before .before .before .loop .inv) (omega arith))
+number-by-requires-9 : tie.Need-number-by-requires-9
+number-by-requires-9 c κs = (rule _ (c .before .before .tail-counts9 .ensures) 8 (omega arith) _ (omega arith), c .before .before .before .before .pre)
 
-add-i : tie.Need-add-i Inv-loop μ-loop
-add-i c = omega arith
-
-loop-less : tie.Need-loop-less Inv-loop μ-loop
-loop-less c = omega arith
-
-loop-again : tie.Need-loop-again Inv-loop μ-loop
-loop-again c = step _ _ _ _ (c .before .before .before .before .before .loop .inv) (omega arith) _ _ (c .before .pass .ensures .0) (c .before .pass .ensures .1)
-
-returns : tie.Need-returns Inv-loop μ-loop
-returns c = end _ _ _ _ (c .before .loop .inv) (omega arith)
+number-by-requires-10 : tie.Need-number-by-requires-10
+number-by-requires-10 c κs = (rule _ (c .before .before .tail-counts10 .ensures) 9 (omega arith) _ (last (c .before .before .before)), c .before .before .before .before .pre)
 
 pub number-spec : {M : Type 1} → statement M
 number-spec =
     tie.close
     (tie.spec
-    Inv-loop
-    μ-loop
-    add-n
-    put-block-requires
-    loop-holds
-    sub-v
-    element-copy-out-v
-    cast-v
-    pass-requires
-    add-sum
-    add-i
-    loop-less
-    loop-again
-    returns)
+    (λ c κs. search needs)
+    (λ c. search needs)
+    number-by-requires
+    (λ c κs. search needs)
+    (λ c. search needs)
+    number-by-requires-2
+    (λ c κs. search needs)
+    (λ c. search needs)
+    number-by-requires-3
+    (λ c κs. search needs)
+    (λ c. search needs)
+    number-by-requires-4
+    (λ c κs. search needs)
+    (λ c. search needs)
+    number-by-requires-5
+    (λ c κs. search needs)
+    (λ c. search needs)
+    number-by-requires-6
+    (λ c κs. search needs)
+    (λ c. search needs)
+    number-by-requires-7
+    (λ c κs. search needs)
+    (λ c. search needs)
+    number-by-requires-8
+    (λ c κs. search needs)
+    (λ c. search needs)
+    number-by-requires-9
+    (λ c κs. search needs)
+    (λ c. search needs)
+    number-by-requires-10
+    (λ c. c .number-by .ensures)
+    (λ c. c .number-by2 .ensures)
+    (λ c. c .number-by3 .ensures)
+    (λ c. c .number-by4 .ensures)
+    (λ c. c .number-by5 .ensures)
+    (λ c. c .number-by6 .ensures)
+    (λ c. c .number-by7 .ensures)
+    (λ c. c .number-by8 .ensures)
+    (λ c. c .number-by9 .ensures)
+    (λ c. c .number-by10 .ensures))

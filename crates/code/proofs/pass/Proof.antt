@@ -17,7 +17,7 @@ abbrev μ-loop : tie.MeasureT-loop
 μ-loop counts n i r v count₀ s₀ u₀ count s u = v - u
 
 loop-holds : tie.Need-loop-holds Inv-loop μ-loop
-loop-holds c = (omega arith, sym (before-zero _ _ _), none (c .pre .1 .0))
+loop-holds c = (omega arith, sym (before-zero _ _ _), none (c .before .pre .1 .0))
 
 add-tail-count : tie.Need-add-tail-count Inv-loop μ-loop
 add-tail-count c = search needs
@@ -26,12 +26,12 @@ tail-count-requires : tie.Need-tail-count-requires Inv-loop μ-loop
 tail-count-requires c κs = search needs
 
 -- the count that was read
-read : (c : tie.After-tail-count Inv-loop μ-loop) → let a = c .before .before .before .args in c .tail-count .result ≡ having (a .n) (a .i) (a .r) (c .before .before .loop .u)
+read : (c : tie.After-tail-count Inv-loop μ-loop) → let a = c .before .before .before .before .args in c .tail-count .result ≡ having (a .n) (a .i) (a .r) (c .before .before .loop .u)
 read c = counted _ (c .before .before .loop .inv .2) (c .tail-count .ensures)
 
 add-count : tie.Need-add-count Inv-loop μ-loop
 add-count c =
-    let a = c .before .before .before .args in
+    let a = c .before .before .before .before .args in
     omega (
       arith,
       read c,
@@ -51,15 +51,15 @@ loop-less c = omega arith
 loop-again : tie.Need-loop-again Inv-loop μ-loop
 loop-again c =
     let d = c .before in
-    let a = d .before .before .before .args in (
+    let a = d .before .before .before .before .args in (
       omega arith,
       omega (arith, read d, before-more (a .n) (a .i) (a .r) (d .before .before .loop .u)),
-      more (d .before .before .before .pre .1 .0) _ (d .before .before .loop .inv .2) (c .residue-after .ensures),
+      more (d .before .before .before .before .pre .1 .0) _ (d .before .before .loop .inv .2) (c .residue-after .ensures),
     )
 
 returns : tie.Need-returns Inv-loop μ-loop
 returns c =
-    let e : c .before .loop .u ≡ c .before .before .args .v = omega arith in
+    let e : c .before .loop .u ≡ c .before .before .before .args .v = omega arith in
     let i = c .before .loop .inv in
     (cc, cc)
 
