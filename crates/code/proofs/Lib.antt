@@ -16,9 +16,10 @@ pub mod First
 pub mod Weight
 pub mod Decoding
 pub mod Stores
+pub mod Neighbours
 pub mod Looking
+pub mod Reading
 pub mod Told
 pub mod Row
-pub mod Reading
 pub mod Found
 pub mod Symbols

@@ -10,13 +10,13 @@ use lib.Seq.{getD-set-same, getD-set-other}
 use Rattle.order.specs.declared.Cell.{Cell}
 use Rattle.order.specs.declared.Order.{Order}
 use Rattle.order.specs.Cells.{isOrder, tabulate}
-use Rattle.order.specs.Order.{listed, orderRecord}
+use Rattle.order.specs.Refusals.{numberOf}
+use Rattle.order.specs.Order.{listed, orderChecks, orderRecord}
 use Rattle.order.proofs.Tabulate.{getD-tabulate, tabulate-set}
 use Rattle.order.proofs.Listings.{cell}
 use Rattle.order.proofs.Records.{passed, passed-listed, passed-order, record-back}
 use Rattle.distance.specs.Distance.{exchange}
-use Rattle.code.specs.Decoding.{isCodeword, symbolOf}
-use Rattle.code.specs.Steps.{Exchangeable, exchangedOrder, Codeword}
+use Rattle.code.specs.Steps.{Exchangeable, exchangedOrder}
 use Rattle.order.proofs.Records.{recorded-length, recorded-list, recorded-passes}
 use Rattle.code.proofs.Decoding.{exchange-order}
 
@@ -68,20 +68,14 @@ module _ (o : Order) (k : ℕ) (e : Exchangeable o k) where
   ordered : isOrder (o .len) (exchange k (listed o)) ≡ true
   ordered = exchange-order (o .len) (listed o) (passed-listed o (e .passed)) k
 
-  same-length : exchangedOrder o k .len ≡ o .len
+  pub same-length : exchangedOrder o k .len ≡ o .len
   unfolding exchangedOrder
   same-length = recorded-length (o .len) _ ordered
 
-  same-list : listed (exchangedOrder o k) ≡ exchange k (listed o)
+  pub same-list : listed (exchangedOrder o k) ≡ exchange k (listed o)
   unfolding exchangedOrder
   same-list = recorded-list (o .len) _ ordered (passed o (e .passed) .0) (passed o (e .passed) .1)
 
-  pub exchanged-symbol : symbolOf (exchangedOrder o k .len) (listed (exchangedOrder o k)) ≡ symbolOf (o .len) (exchange k (listed o))
-  exchanged-symbol = rw (same-list, same-length)
-
-  pub exchanged-codeword : isCodeword (o .len) (exchange k (listed o)) ≡ true → Codeword (exchangedOrder o k)
+  pub exchanged-passes : numberOf (orderChecks (exchangedOrder o k)) ≡ 0
   unfolding exchangedOrder
-  exchanged-codeword c = record {
-    passed = recorded-passes (o .len) _ ordered (passed o (e .passed) .0) (passed o (e .passed) .1);
-    code = rw (same-list, same-length) c;
-  }
+  exchanged-passes = recorded-passes (o .len) _ ordered (passed o (e .passed) .0) (passed o (e .passed) .1)

@@ -13,7 +13,9 @@ use Rattle.code.specs.declared.TestAnswer.{TestAnswer}
 use Rattle.code.specs.declared.TestAnswer.the-variants as test
 use Rattle.code.specs.declared.DecodeAnswer.{DecodeAnswer}
 use Rattle.code.specs.declared.DecodeAnswer.the-variants as decode
-use Rattle.code.specs.Calls.{Reading, toldWords, toldTest, toldDecode}
+use Rattle.code.specs.declared.CorrectedAnswer.{CorrectedAnswer}
+use Rattle.code.specs.Calls.{Reading, Correction, toldWords, toldTest, toldDecode, toldCorrected}
+use Rattle.code.proofs.Reading.{readingTold}
 
 pub told-words : (a b : WordsAnswer) → toldWords a ≡ toldWords b → a ≡ b
 told-words (words.Refused a) (words.Refused b) e = ap words.Refused (refusal-by-number a b (ap (λ (t : Told ℕ). t .number) e))
@@ -35,3 +37,8 @@ told-decode (decode.Decoded s v) (decode.Decoded r w) e =
     let symbol : s ≡ r = ap (λ (t : Told Reading). t .value .symbol) e in
     let verdict : _≡_ {A = Option Verdict} (some v) (some w) = ap (λ (t : Told Reading). t .value .verdict) e in
     cc
+
+pub told-corrected : (a b : CorrectedAnswer) → toldCorrected a ≡ toldCorrected b → a ≡ b
+told-corrected a b e =
+    let answer = told-decode (a .answer) (b .answer) (ap readingTold e) in
+    λ i. record { answer = answer i; word = (ap (λ (t : Told Correction). t .value .word) e) i }

@@ -96,11 +96,18 @@ module _ (n : ℕ) (u : List ℕ) (o : IsOrder n u) (k : ℕ) (h : suc k < n) wh
   pub place-cells : ((1 ≤ a) × (a ≤ n)) × ((1 ≤ b) × (b ≤ n)) × (a ≡ b → ⊥)
   place-cells = (order-range n u o k (omega arith), order-range n u o (suc k) h, exchanged-apart neighbours (order-distinct o))
 
+  -- the coordinate of the greater one changes
+  pub place-more : a < b → OneMore n (b - 1) u (exchange (suc k) u)
+  place-more l = coordinate-more neighbours o l
+
+  pub place-less : b < a → OneMore n (a - 1) (exchange (suc k) u) u
+  place-less l = coordinate-less neighbours o l
+
   sum-up : a < b → sumOf n (exchange (suc k) u) ≡ sumOf n u + (b - 1)
-  sum-up l = sum-more (coordinate-more neighbours o l)
+  sum-up l = sum-more (place-more l)
 
   sum-down : b < a → sumOf n u ≡ sumOf n (exchange (suc k) u) + (a - 1)
-  sum-down l = sum-more (coordinate-less neighbours o l)
+  sum-down l = sum-more (place-less l)
 
   -- the syndrome tells whether it makes a codeword
   pub corrects-by : isCodeword n (exchange (suc k) u) ≡ correctsBy n (syndromeOf n u) a b

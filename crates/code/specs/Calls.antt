@@ -6,8 +6,11 @@
 --   toldDecode                 what an answer says: its number, and the reading
 --   verdictAt k                clean for place 0, else put right at place k
 --   readingAt n u k            what u reads as where the exchange at place k is put right
+--   Correction                 a reading, and the codeword found, as an order; the zeros beside a refusal
+--   toldCorrected              what an answer says: its number, the reading and the codeword
 --   codewordChecks, decodeChecks                   the checks of these calls: 1, 5, and 1, 4, 7
 --   wordsOf, codewordOf, isCodewordOf, decodeOf    the answers to `words`, `codeword`, `is_codeword` and `decode`
+--   correctedOf                                    the answer to `corrected`: what `decode` answers, and the codeword found
 use mathlib.Core.Bool.{Bool, false}
 use mathlib.Core.List.{List, [], _∷_, _++_}
 use mathlib.Core.Option.{Option, none, some}
@@ -29,6 +32,7 @@ use Rattle.code.specs.declared.TestAnswer.{TestAnswer}
 use Rattle.code.specs.declared.TestAnswer.the-variants as test
 use Rattle.code.specs.declared.DecodeAnswer.{DecodeAnswer}
 use Rattle.code.specs.declared.DecodeAnswer.the-variants as decode
+use Rattle.code.specs.declared.CorrectedAnswer.{CorrectedAnswer}
 use Rattle.code.specs.Words.{K, wordAt}
 use Rattle.code.specs.Decoding.{isCodeword, correction, symbolOf}
 
@@ -86,3 +90,18 @@ decodeChecks o = orderChecks o ++ (ltb (correction (o .len) (listed o)) (o .len)
 
 unfoldable pub decodeOf : Order → Told Reading
 decodeOf o = answer (decodeChecks o) (readingAt (o .len) (listed o) (correction (o .len) (listed o))) noReading
+
+-- ---- the codeword found
+
+pub record Correction : Type 0 where
+  pub reading : Reading
+  pub word : Order
+
+abbrev pub toldCorrected : CorrectedAnswer → Told Correction
+toldCorrected r = record { number = toldDecode (r .answer) .number; value = record { reading = toldDecode (r .answer) .value; word = r .word } }
+
+unfoldable pub correctedOf : Order → Told Correction
+correctedOf o =
+    let k = correction (o .len) (listed o) in
+    answer (decodeChecks o) (record { reading = readingAt (o .len) (listed o) k; word = orderRecord (exchange k (listed o)) })
+    (record { reading = noReading; word = noOrder })

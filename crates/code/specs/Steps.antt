@@ -10,7 +10,6 @@
 --   correctsBy        the exchange of a cell and the one just below it makes the syndrome s 0
 --   Exchangeable o k  an order of n cells, and k is a place from 1 to n - 1
 --   exchangedOrder    the record with the cells of ranks k and k + 1 exchanged
---   Codeword o        the record is an order of n cells, n from 3 to 12, and a codeword
 use mathlib.Core.Path.{_≡_}
 use mathlib.Core.Bool.{Bool, true, _&&_, cond}
 use mathlib.Core.List.{List, [], _∷_, _++_}
@@ -25,7 +24,6 @@ use Rattle.coordinates.specs.declared.Coordinates.{Coordinates}
 use Rattle.coordinates.specs.Coordinates.{coordinatesTo}
 use Rattle.code.specs.declared.Choice.{Choice}
 use Rattle.code.specs.Words.{modulus, weight, leaves}
-use Rattle.code.specs.Decoding.{isCodeword}
 use Rattle.code.specs.Tails.{owed, having, before}
 
 abbrev pub held : List ℕ → Coordinates
@@ -69,7 +67,3 @@ pub record Exchangeable (o : Order) (k : ℕ) : Type 0 where
 
 unfoldable pub exchangedOrder : Order → ℕ → Order
 exchangedOrder o k = orderRecord (exchange k (listed o))
-
-pub record Codeword (o : Order) : Type 0 where
-  pub passed : numberOf (orderChecks o) ≡ 0
-  pub code : isCodeword (o .len) (listed o) ≡ true

@@ -5,6 +5,7 @@
 mod table;
 
 use coordinates::Coordinates;
+use order::Cell;
 use order::Order;
 use order::OrderAnswer;
 use order::Outcome;
@@ -16,14 +17,15 @@ ghost use mathlib.Core.Bool.{true};
 ghost use Prim.Native.Nat.{_+_, _%_, _≤_, _<_};
 ghost use lib.Dec.{T};
 ghost use lib.ListN.{take};
-ghost use Rattle.order.specs.Refusals.{isSize};
-ghost use Rattle.order.specs.Order.{listed, toldOrder};
+ghost use Rattle.order.specs.Refusals.{refusalNumber, isSize};
+ghost use Rattle.order.specs.Order.{listed, noOrder, toldOrder};
+ghost use Rattle.coordinates.specs.Calls.{coordinatesOf};
 ghost use Rattle.code.specs.Words.{modulus, weight, K, wordAt, wordNumber};
-ghost use Rattle.code.specs.Decoding.{correction, symbolOf};
-ghost use Rattle.code.specs.Calls.{toldWords, wordsOf, codewordOf, toldTest, isCodewordOf, toldDecode, decodeOf};
+ghost use Rattle.code.specs.Decoding.{correction};
+ghost use Rattle.code.specs.Calls.{toldWords, wordsOf, codewordOf, toldTest, isCodewordOf, noReading, toldDecode, decodeOf, toldCorrected, correctedOf};
 ghost use Rattle.code.specs.Tails.{tails, Entry, Block, owed, before};
 ghost use Rattle.code.specs.Table.{tableRight};
-ghost use Rattle.code.specs.Steps.{held, isWord, Choosing, Chosen, Misread, correctsBy, Exchangeable, exchangedOrder, Codeword};
+ghost use Rattle.code.specs.Steps.{held, isWord, Choosing, Chosen, Misread, correctsBy, Exchangeable, exchangedOrder};
 
 pub enum WordsAnswer {
     Refused(Refusal),
@@ -44,6 +46,12 @@ pub enum TestAnswer {
 pub enum DecodeAnswer {
     Refused(Refusal),
     Decoded { symbol: u32, verdict: Verdict },
+}
+
+// What an order reads as, and the codeword found.
+pub struct CorrectedAnswer {
+    pub answer: DecodeAnswer,
+    pub word: Order,
 }
 
 // A coordinate, the number that is left for the later ones, and what these must leave.
@@ -340,27 +348,72 @@ fn pass(counts: &[u32], n: usize, i: usize, r: usize, v: usize) -> Passed
 pub fn decode(o: Order) -> DecodeAnswer
     ensures { λ r. ⌜ toldDecode r ≡ decodeOf o ⌝ }
 {
-    let answer = coordinates::coordinates_of(o);
-    let outcome = answer.outcome;
+    let found = corrected(o);
+    let answer = found.answer;
+    answer
+}
+
+// What an order reads as, with the codeword itself.
+pub fn corrected(o: Order) -> CorrectedAnswer
+    ensures { λ r. ⌜ toldCorrected r ≡ correctedOf o ⌝ }
+{
+    let read = coordinates::coordinates_of(o);
+    let outcome = read.outcome;
     if let Outcome::Refused(refusal) = outcome {
-        return DecodeAnswer::Refused(refusal);
+        return no_word(refusal);
     }
-    let x = answer.coordinates;
+    let x = read.coordinates;
     let s = syndrome(x);
     if s == 0 {
-        return DecodeAnswer::Decoded {
-            symbol: number(x),
-            verdict: Verdict::Clean,
+        return CorrectedAnswer {
+            answer: DecodeAnswer::Decoded {
+                symbol: number(x),
+                verdict: Verdict::Clean,
+            },
+            word: o,
         };
     }
     let k = exchange_for(o, s);
     if o.len <= k {
-        return DecodeAnswer::Refused(Refusal::Lost);
+        return no_word(Refusal::Lost);
     }
-    DecodeAnswer::Decoded {
-        symbol: symbol_of(exchanged(o, k)),
-        verdict: Verdict::PutRight(Rank(k as u8)),
+    CorrectedAnswer {
+        answer: DecodeAnswer::Decoded {
+            symbol: number(corrected_coordinates(x, o, k)),
+            verdict: Verdict::PutRight(Rank(k as u8)),
+        },
+        word: exchanged(o, k),
     }
+}
+
+// A refusal: there is no codeword.
+fn no_word(refusal: Refusal) -> CorrectedAnswer
+    ensures { λ r. ⌜ toldCorrected r ≡ record { number = refusalNumber refusal; value = record { reading = noReading; word = noOrder } } ⌝ }
+{
+    CorrectedAnswer {
+        answer: DecodeAnswer::Refused(refusal),
+        word: Order {
+            len: 0,
+            cells: [Cell(0); 12],
+        },
+    }
+}
+
+// The coordinates of an order after the exchange at place k, from those before it: that of the greater of the two cells changes by one, up where
+// that cell stands below, down where it stands above.
+fn corrected_coordinates(x: Coordinates, o: Order, k: usize) -> Coordinates
+    requires { ⌜ Exchangeable o k × (x ≡ coordinatesOf o) ⌝ }
+    ensures { λ r. ⌜ r ≡ coordinatesOf (exchangedOrder o k) ⌝ }
+{
+    let above = o.cells[k - 1].number();
+    let below = o.cells[k].number();
+    let mut next = x;
+    if above < below {
+        next.values[below - 2] = x.values[below - 2] + 1;
+    } else {
+        next.values[above - 2] = x.values[above - 2] - 1;
+    }
+    next
 }
 
 // The first place at which a neighbour exchange makes an order whose syndrome is s, not 0, a codeword; n where there is none.
@@ -405,13 +458,4 @@ fn exchanged(o: Order, k: usize) -> Order
     next.cells[k - 1] = below;
     next.cells[k] = above;
     next
-}
-
-// The number of a codeword.
-fn symbol_of(o: Order) -> u32
-    requires { ⌜ Codeword o ⌝ }
-    ensures { λ s. ⌜ s ≡ symbolOf (o .len) (listed o) ⌝ }
-{
-    let answer = coordinates::coordinates_of(o);
-    number(answer.coordinates)
 }

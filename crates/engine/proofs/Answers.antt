@@ -80,6 +80,13 @@ module _ (g : Group) where
     unfolding readOf
     read-blank w = told-refused _ _ _ Blank (later-decide _ (groupChecks g) d ∙ check-fails _ _ w)
 
+    -- the sensed order, in its record
+    pub sensed-recorded : (orderRecord (sensedOrder g) .len ≡ g .n) × (listed (orderRecord (sensedOrder g)) ≡ sensedOrder g)
+    sensed-recorded =
+        let t = sensed-order (g .n) (g .levels) in
+        let size = checked-size g d in
+        (recorded-length (g .n) (sensedOrder g) t, recorded-list (g .n) (sensedOrder g) t (size .0) (size .1))
+
     -- the mark is set: the reading of the sensed order
     pub read-decoded : g .written ≡ true → decodeOf (orderRecord (sensedOrder g)) ≡ readOf g
     unfolding readOf decodeOf
@@ -88,12 +95,26 @@ module _ (g : Group) where
         let t = sensed-order (g .n) (g .levels) in
         let size = checked-size g d in
         let o = orderRecord xs in
-        let same : (o .len ≡ g .n) × (listed o ≡ xs) = (recorded-length (g .n) xs t, recorded-list (g .n) xs t (size .0) (size .1)) in
+        let same = sensed-recorded in
         same-answer (orderChecks o ++ (ltb (correction (o .len) (listed o)) (o .len), Lost) ∷ []) (readChecks g)
         (readingAt (o .len) (listed o) (correction (o .len) (listed o))) (readingOf g) noReading
         (later-decide _ (orderChecks o) (recorded-passes (g .n) xs t (size .0) (size .1))
         ∙ rw (same .1, same .0) (sym (later-decide _ (groupChecks g) d ∙ check-holds _ _ w)))
         (rw (same .1, same .0))
+
+-- ---- the write of an order of the group's cells: refused as worn alone
+
+module _ (g : Group) (d : numberOf (groupChecks g) ≡ 0) (w : List ℕ) (t : isOrder (g .n) w ≡ true) where
+  pub write-listed : (checks : List (Bool × Refusal)) → numberOf checks ≡ numberOf ((fits g w, Worn) ∷ []) → writeOf g (orderRecord w) ≡ answer checks (pushed g w) (unpushed g)
+  unfolding writeOf
+  write-listed checks e =
+      let o = orderRecord w in
+      let (low, high) = checked-size g d in
+      let list : listed o ≡ w = recorded-list (g .n) w t low high in
+      let ordered : isOrderOf (g .n) o ≡ true = ap (λ (k : ℕ). isOrderOf k o) (sym (recorded-length (g .n) w t)) ∙ passed o (recorded-passes (g .n) w t low high) .2 in
+      same-answer (groupChecks g ++ (isOrderOf (g .n) o, NoOrder) ∷ (fits g (listed o), Worn) ∷ []) checks (pushed g (listed o)) (pushed g w) (unpushed g)
+      (later-decide _ (groupChecks g) d ∙ check-holds _ _ ordered ∙ rw list (sym e))
+      (ap (pushed g) list)
 
 -- ---- store
 
@@ -144,17 +165,10 @@ module _ (g : Group) (s : ℕ) where
       word-order = symbol-order (g .n) (omega (arith, checked-size g d .0)) s below
 
       pub store-written : writeOf g (orderRecord (wordOf (g .n) s)) ≡ storeOf g s
-      unfolding writeOf storeOf
+      unfolding storeOf
       store-written =
-          let w = wordOf (g .n) s in
-          let o = orderRecord w in
-          let (low, high) = checked-size g d in
-          let list : listed o ≡ w = recorded-list (g .n) w word-order low high in
-          let ordered : isOrderOf (g .n) o ≡ true = ap (λ (k : ℕ). isOrderOf k o) (sym (recorded-length (g .n) w word-order)) ∙ passed o (recorded-passes (g .n) w word-order low high) .2 in
-          same-answer (groupChecks g ++ (isOrderOf (g .n) o, NoOrder) ∷ (fits g (listed o), Worn) ∷ []) (storeChecks g s)
-          (pushed g (listed o)) (pushed g w) (unpushed g)
-          (later-decide _ (groupChecks g) d ∙ check-holds _ _ ordered ∙ rw list (sym (later-decide _ (groupChecks g) d ∙ check-holds _ _ (lt-ltb s (K (g .n)) below))))
-          (ap (pushed g) list)
+          write-listed g d (wordOf (g .n) s) word-order (storeChecks g s)
+          (later-decide _ (groupChecks g) d ∙ check-holds _ _ (lt-ltb s (K (g .n)) below))
 
 -- ---- alike
 

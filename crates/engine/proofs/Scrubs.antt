@@ -1,48 +1,50 @@
 -- A scrub: what it answers, case by case, and what it leaves.
 --
---   scrub-refused, scrub-worn, scrub-done   the answer from those of the read and of the store of the symbol read
+--   scrub-refused   the refusal of a read is that of a scrub
+--   scrub-written   otherwise the answer is that of the write of the codeword found, with the symbol and the verdict of the read
+--   scrub-stored    which is the store of the symbol read
+--   scrub-lost, scrub-found   the same by the answer of `corrected` to the order sensed
 --   scrub-reads   after an accepted scrub a read answers the symbol that was read before it, clean
 --   scrub-tells   an accepted scrub tells the symbol and the verdict of a read before it
 --   scrub-kept    a refused scrub, worn or other, gives the group back, with symbol 0, no verdict and no pulses
 -- Assumes nothing.
-use Prim.Native.Nat.{ℕ, suc, _<_}
+use Prim.Native.Nat.{ℕ, zero, suc, _<_}
 use native.Mathlib.Omega.{arith}
-use mathlib.Core.Path.{_≡_, sym, ap, _∙_}
+use mathlib.Core.Path.{_≡_, refl, sym, ap, _∙_}
 use mathlib.Core.Bool.{true}
-use mathlib.Core.List.{List, [], _∷_}
-use mathlib.Core.Option.{some}
+use mathlib.Core.List.{[]}
+use mathlib.Core.Option.{Option, some}
 use lib.Dec.{ltb}
-use borrow.Author.Tests.{ltb-true, lt-ltb}
+use borrow.Author.Tests.{ltb-true}
 use Rattle.order.specs.declared.Refusal.{Refusal}
-use Rattle.order.specs.declared.Refusal.the-variants.{Blank, Lost, Worn}
-use Rattle.order.specs.declared.Outcome.the-variants.{Done, Refused}
-use Rattle.order.specs.Refusals.{outcomeNumber, numberOf, Told, answer}
+use Rattle.order.specs.declared.Refusal.the-variants.{Blank, Lost}
+use Rattle.order.specs.Refusals.{refusalNumber, numberOf, ifDone, Told, answer}
 use Rattle.order.specs.Cells.{isOrder}
-use Rattle.order.proofs.Refusals.{later-decide, all-held, check-held, check-holds, refused-first, told-done, told-refused, passed-on, accepted}
+use Rattle.order.specs.Order.{orderRecord}
+use Rattle.order.proofs.Refusals.{later-decide, all-held, check-held, refused-first, told-refused}
 use Rattle.code.specs.declared.Verdict.{Verdict}
 use Rattle.code.specs.declared.Verdict.the-variants.{Clean}
+use Rattle.code.specs.declared.DecodeAnswer.the-variants as decode
+use Rattle.code.specs.declared.CorrectedAnswer.{CorrectedAnswer}
 use Rattle.code.specs.Words.{K}
 use Rattle.code.specs.Decoding.{isCodeword, symbolOf}
-use Rattle.code.specs.Calls.{wordOf, Reading, readingAt}
+use Rattle.code.specs.Calls.{wordOf, Reading, Correction, readingAt, toldDecode, toldCorrected, correctedOf}
 use Rattle.code.proofs.Laws.{number-below}
 use Rattle.code.proofs.Codewords.{codeword-word, number-of-codeword}
 use Rattle.code.proofs.Decoding.{exchange-order, corrected}
+use Rattle.code.proofs.Reading.{readingTold, decode-part, corrected-word}
 use Rattle.group.specs.declared.Group.{Group}
-use Rattle.group.specs.declared.Written.{Written}
 use Rattle.group.specs.Record.{groupChecks}
-use Rattle.group.specs.Calls.{Program, toldWritten, fits, pushed}
+use Rattle.group.specs.Calls.{Program, pushed, unpushed, writeOf}
 use Rattle.group.proofs.Checks.{checked-size}
 use Rattle.group.proofs.Sensed.{sensed-order}
 use Rattle.group.proofs.Groups.{IsGroup}
-use Rattle.engine.specs.declared.ReadAnswer.{ReadAnswer}
-use Rattle.engine.specs.declared.ReadAnswer.the-variants as read
-use Rattle.engine.specs.declared.Kind.the-variants.{Read}
-use Rattle.engine.specs.Calls.{sensedOrder, placeRead, readChecks, readingOf, toldRead, readOf, storeChecks, storeOf}
-use Rattle.engine.specs.Machine.{quiet, programmedStep, wordFound, scrubChecks, scrubOf, afterRead}
-use Rattle.engine.proofs.Answers.{read-number, read-done}
+use Rattle.engine.specs.Calls.{sensedOrder, placeRead, readChecks, readingOf, readOf, storeOf}
+use Rattle.engine.specs.Machine.{Step, quiet, programmedStep, wordFound, scrubChecks, scrubOf}
+use Rattle.engine.proofs.Answers.{read-number, read-done, read-decoded, sensed-recorded, write-listed, store-written}
 use Rattle.engine.proofs.Holds.{store-reads}
 
--- ---- the symbol read stands for the codeword found
+-- ---- the codeword found, and the symbol that stands for it
 
 module _ (g : Group) (d : numberOf (readChecks g) ≡ 0) where
   checks-passed : numberOf (groupChecks g) ≡ 0
@@ -70,64 +72,66 @@ module _ (g : Group) (d : numberOf (readChecks g) ≡ 0) where
   unfolding readingAt symbolOf
   symbol-low = number-below (g .n) pos _ (codeword-word (g .n) pos (wordFound g) found-order found-codeword)
 
-  -- to store it is refused where the scrub is, as worn alone
-  pub store-number : numberOf (storeChecks g (readingOf g .symbol)) ≡ numberOf (scrubChecks g)
-  store-number =
-      later-decide _ (groupChecks g) checks-passed
-      ∙ check-holds _ _ (lt-ltb (readingOf g .symbol) (K (g .n)) symbol-low)
-      ∙ ap (λ (xs : List ℕ). numberOf ((fits g xs, Worn) ∷ [])) symbol-word
-      ∙ sym (later-decide _ (readChecks g) d)
+  -- to write it is refused where the scrub is, as worn alone
+  write-found : writeOf g (orderRecord (wordFound g)) ≡ answer (scrubChecks g) (pushed g (wordFound g)) (unpushed g)
+  write-found = write-listed g checks-passed (wordFound g) found-order (scrubChecks g) (later-decide _ (readChecks g) d)
+
+  -- and to store the symbol is to write it
+  store-found : storeOf g (readingOf g .symbol) ≡ writeOf g (orderRecord (wordFound g))
+  store-found = rw symbol-word at (sym (store-written g (readingOf g .symbol) checks-passed symbol-low))
 
 -- ---- the answer to a scrub
 
-scrub-accepted : (g : Group) → numberOf (scrubChecks g) ≡ 0
-    → record { number = 0; value = programmedStep (pushed g (wordFound g)) (readingOf g .symbol) (readingOf g .verdict) } ≡ scrubOf g
-unfolding scrubOf
-scrub-accepted g d = told-done _ _ _ d
+-- by that of a write
+abbrev pub scrubbed : Group → Told Program → ℕ → Option Verdict → Told Step
+scrubbed g t s v = record { number = t .number; value = ifDone (t .number) (programmedStep (t .value) s v) (quiet g) }
 
-module _ (g : Group) (a : ReadAnswer) (e : toldRead a ≡ readOf g) where
-  pub scrub-refused : {r : Refusal} → a ≡ read.Refused r → afterRead g (toldRead a) ≡ scrubOf g
+module _ (g : Group) where
+  pub scrub-refused : (r : Refusal) → readOf g .number ≡ refusalNumber r → record { number = refusalNumber r; value = quiet g } ≡ scrubOf g
   unfolding scrubOf
-  scrub-refused {r} o =
-      rw o (told-refused _ _ _ r (refused-first _ (readChecks g) r (sym (read-number g) ∙ ap (λ (t : Told Reading). t .number) (rw o at (sym e)))))
+  scrub-refused r e = told-refused _ _ _ r (refused-first _ (readChecks g) r (sym (read-number g) ∙ e))
 
-  module _ {s : ℕ} {v : Verdict} (o : a ≡ read.Read s v) where
+  module _ (d : numberOf (readChecks g) ≡ 0) where
+    pub scrub-written : scrubbed g (writeOf g (orderRecord (wordFound g))) (readingOf g .symbol) (readingOf g .verdict) ≡ scrubOf g
+    unfolding scrubOf answer
+    scrub-written = rw (write-found g d) (go (numberOf (scrubChecks g)))
+      where
+        go : (k : ℕ)
+            → scrubbed g (record { number = k; value = ifDone k (pushed g (wordFound g)) (unpushed g) }) (readingOf g .symbol) (readingOf g .verdict)
+            ≡ record { number = k; value = ifDone k (programmedStep (pushed g (wordFound g)) (readingOf g .symbol) (readingOf g .verdict)) (quiet g) }
+        go zero = refl
+        go (suc k) = refl
+
+    pub scrub-stored : scrubbed g (storeOf g (readingOf g .symbol)) (readingOf g .symbol) (readingOf g .verdict) ≡ scrubOf g
+    scrub-stored = rw (store-found g d) scrub-written
+
+-- by the order sensed, put right
+module _ (g : Group) (d : numberOf (groupChecks g) ≡ 0) (w : g .written ≡ true) (f : CorrectedAnswer) (e : toldCorrected f ≡ correctedOf (orderRecord (sensedOrder g))) where
+  read-corrected : toldDecode (f .answer) ≡ readOf g
+  read-corrected = ap readingTold e ∙ decode-part (orderRecord (sensedOrder g)) ∙ read-decoded g d w
+
+  pub scrub-lost : {r : Refusal} → f .answer ≡ decode.Refused r → record { number = refusalNumber r; value = quiet g } ≡ scrubOf g
+  scrub-lost {r} p = scrub-refused g r (ap (λ (t : Told Reading). t .number) (rw p at (sym read-corrected)))
+
+  module _ {s : ℕ} {v : Verdict} (p : f .answer ≡ decode.Decoded s v) where
     answered : readOf g ≡ record { number = 0; value = record { symbol = s; verdict = some v } }
-    answered = rw o at (sym e)
+    answered = rw p at (sym read-corrected)
 
-    read-accepted : numberOf (readChecks g) ≡ 0
-    read-accepted = sym (read-number g) ∙ ap (λ (t : Told Reading). t .number) answered
+    accepted-read : numberOf (readChecks g) ≡ 0
+    accepted-read = sym (read-number g) ∙ ap (λ (t : Told Reading). t .number) answered
 
     reading : readingOf g ≡ record { symbol = s; verdict = some v }
-    reading = ap (λ (t : Told Reading). t .value) (sym (read-done g read-accepted) ∙ answered)
+    reading = ap (λ (t : Told Reading). t .value) (sym (read-done g accepted-read) ∙ answered)
 
-    same-symbol : readingOf g .symbol ≡ s
-    same-symbol = ap (λ (t : Reading). t .symbol) reading
+    word : f .word ≡ orderRecord (wordFound g)
+    word =
+        let o = orderRecord (sensedOrder g) in
+        let number : correctedOf o .number ≡ 0 = ap (λ (t : Told Correction). t .number) (sym e) ∙ ap (λ (t : Told Reading). t .number) (read-corrected ∙ answered) in
+        let (len, list) = sensed-recorded g d in
+        ap (λ (t : Told Correction). t .value .word) e ∙ corrected-word o number ∙ rw (list, len)
 
-    stored-number : numberOf (storeChecks g s) ≡ numberOf (scrubChecks g)
-    stored-number = rw same-symbol at (store-number g read-accepted)
-
-    module _ (b : Written) (f : toldWritten b ≡ storeOf g s) where
-      outcome-number : outcomeNumber (b .outcome) ≡ numberOf (scrubChecks g)
-      unfolding storeOf answer
-      outcome-number = ap (λ (t : Told Program). t .number) f ∙ stored-number
-
-      pub scrub-worn : {r : Refusal} → b .outcome ≡ Refused r → record { number = outcomeNumber (b .outcome); value = quiet g } ≡ scrubOf g
-      unfolding scrubOf
-      scrub-worn {r} p = passed-on _ _ _ (b .outcome) outcome-number r p
-
-      module _ (p : b .outcome ≡ Done) where
-        done : numberOf (scrubChecks g) ≡ 0
-        done = accepted outcome-number p
-
-        stored : pushed g (wordFound g) ≡ toldWritten b .value
-        unfolding storeOf
-        stored =
-            ap (pushed g) (sym (rw same-symbol at (symbol-word g read-accepted)))
-            ∙ ap (λ (t : Told Program). t .value) (told-done _ _ _ (stored-number ∙ done) ∙ sym f)
-
-        pub scrub-done : record { number = 0; value = programmedStep (toldWritten b .value) s (some v) } ≡ scrubOf g
-        scrub-done = rw (stored, reading) at (scrub-accepted g done)
+    pub scrub-found : {t : Told Program} → t ≡ writeOf g (f .word) → scrubbed g t s (some v) ≡ scrubOf g
+    scrub-found q = rw (q, word) (rw reading at (scrub-written g accepted-read))
 
 -- ---- what it leaves
 
@@ -137,11 +141,12 @@ module _ (g : Group) where
       → (numberOf (readChecks g) ≡ 0)
       × (storeOf g (readingOf g .symbol) .number ≡ 0)
       × (scrubOf g .value ≡ programmedStep (storeOf g (readingOf g .symbol) .value) (readingOf g .symbol) (readingOf g .verdict))
-  unfolding scrubOf storeOf answer
+  unfolding scrubOf answer
   scrub-store e =
       let d = all-held _ (readChecks g) e .0 in
-      let k = store-number g d ∙ e in
-      (d, k, rw (k, e, symbol-word g d))
+      let same = scrub-stored g d in
+      let k : storeOf g (readingOf g .symbol) .number ≡ 0 = ap (λ (t : Told Step). t .number) same ∙ e in
+      (d, k, sym (rw k at (ap (λ (t : Told Step). t .value) same)))
 
   pub scrub-kept : {k : ℕ} → scrubOf g .number ≡ suc k → scrubOf g .value ≡ quiet g
   unfolding scrubOf answer

@@ -14,10 +14,11 @@ use order::Outcome;
 use order::Refusal;
 ghost use mathlib.Core.Path.{_≡_};
 ghost use mathlib.Core.Bool.{false};
-ghost use Rattle.order.specs.Refusals.{outcomeNumber};
+ghost use mathlib.Core.Option.{some};
+ghost use Rattle.order.specs.Refusals.{outcomeNumber, ifDone};
 ghost use Rattle.group.specs.Calls.{toldChanged, toldWritten};
 ghost use Rattle.engine.specs.Calls.{toldRead, readOf, storeOf, toldAlike, alikeOf};
-ghost use Rattle.engine.specs.Machine.{toldApplied, quiet, afterProgram, afterChange, afterRead, scrubOf, applyOf};
+ghost use Rattle.engine.specs.Machine.{toldApplied, quiet, programmedStep, afterProgram, afterChange, afterRead, scrubOf, applyOf};
 
 pub enum ReadAnswer {
     Refused(Refusal),
@@ -143,24 +144,46 @@ fn refused(answer: ReadAnswer) -> AlikeAnswer
 pub fn scrub(g: Group) -> Applied
     ensures { λ r. ⌜ toldApplied r ≡ scrubOf g ⌝ }
 {
-    let answer = read(g);
-    let ReadAnswer::Read { symbol, verdict } = answer else {
-        return from_read(g, answer);
+    let sensed = group::sense(g);
+    let sensing = sensed.outcome;
+    let Outcome::Done = sensing else {
+        return unchanged(sensing, g);
     };
-    let rewritten = store(g, symbol);
-    let outcome = rewritten.outcome;
+    if !g.written {
+        return unchanged(Outcome::Refused(Refusal::Blank), g);
+    }
+    let order = sensed.order;
+    let found = code::corrected(order);
+    let answer = found.answer;
+    match answer {
+        DecodeAnswer::Refused(refusal) => unchanged(Outcome::Refused(refusal), g),
+        DecodeAnswer::Decoded { symbol, verdict } => {
+            let word = found.word;
+            rewritten(g, group::write(g, word), symbol, verdict)
+        }
+    }
+}
+
+// The answer of a scrub that found a codeword, by that of its write.
+fn rewritten(g: Group, answer: Written, symbol: u32, verdict: Verdict) -> Applied
+    ensures { λ r. ⌜ toldApplied r ≡ record {
+      number = toldWritten answer .number;
+      value = ifDone (toldWritten answer .number) (programmedStep (toldWritten answer .value) symbol (some verdict)) (quiet g);
+    } ⌝ }
+{
+    let outcome = answer.outcome;
     let Outcome::Done = outcome else {
         return unchanged(outcome, g);
     };
-    let group = rewritten.group;
-    let pushes = rewritten.pushes;
+    let group = answer.group;
+    let pushes = answer.pushes;
     Applied {
         outcome: Outcome::Done,
         group,
         symbol,
         verdict: Judged::By(verdict),
-        pulses: rewritten.pulses,
-        count: rewritten.count,
+        pulses: answer.pulses,
+        count: answer.count,
         pushes,
     }
 }

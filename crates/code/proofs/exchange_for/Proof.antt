@@ -6,7 +6,8 @@ use Prim.Native.Nat.{_-_, _≤_}
 use mathlib.Core.Path.{sym, _∙_}
 use Rattle.order.proofs.Numbers.{length-mapped}
 use Rattle.order.proofs.Records.{passed}
-use Rattle.code.proofs.Looking.{Looking, Turn, looking-none, looking-cells, looking-low, looking-found, looking-more, looking-all}
+use Rattle.code.proofs.Looking.{Looking, looking-none, looking-low, looking-found, looking-more, looking-all}
+use Rattle.code.proofs.Neighbours.{Neighbours, cells-read}
 use Rattle.code.proofs.exchange_for.Statement.{statement}
 use Rattle.code.proofs.exchange_for.Tie as tie
 
@@ -37,21 +38,29 @@ element-copy-out-number-2 c = omega (arith, size (c .before .before .before .bef
 number-requires-2 : tie.Need-number-requires-2 Inv-loop μ-loop
 number-requires-2 c κs = search needs
 
--- the turn at the two cells that are read
-turn : (c : tie.After-number2 Inv-loop μ-loop) →
+-- the two cells that are read
+pair : (c : tie.After-number2 Inv-loop μ-loop) →
     let at = c .before .before .before .before .before in
-    Turn (at .before .args .t1) (at .before .args .s) (at .loop .k) (c .before .before .number .result) (c .number2 .result)
-turn c =
+    Neighbours (at .before .args .t1) (at .loop .k) (c .before .before .number .result) (c .number2 .result)
+pair c =
     let l = c .before .before .before .before in
-    record { state = l .before .loop .inv; more = l .loop-test .taken; above = c .before .before .number .ensures; below = c .number2 .ensures }
+    let t = l .before .loop .inv in
+    record {
+      place = record { passed = t .misread .passed; first = t .first; last = l .loop-test .taken };
+      above = c .before .before .number .ensures;
+      below = c .number2 .ensures;
+    }
 
 corrects-requires : tie.Need-corrects-requires Inv-loop μ-loop
 corrects-requires c κs =
-    let (p, q, r, s) = looking-cells (turn c) in
-    (omega arith, size (c .before .before .before .before .before .before), looking-low (turn c .state), p, q, r, s)
+    let at = c .before .before .before .before .before in
+    let ((p, q), (r, s), _) = cells-read (pair c) in
+    (omega arith, size (at .before), looking-low (at .loop .inv), p, q, r, s)
 
 returns : tie.Need-returns Inv-loop μ-loop
-returns c = looking-found (turn (c .before .before)) (sym (c .before .corrects .ensures) ∙ c .if1 .taken)
+returns c =
+    let b = c .before .before in
+    looking-found (b .before .before .before .before .before .loop .inv) (pair b) (sym (c .before .corrects .ensures) ∙ c .if1 .taken)
 
 add-k : tie.Need-add-k Inv-loop μ-loop
 add-k c = omega (arith, size (c .before .before .before .before .before .before .before .before))
@@ -60,7 +69,9 @@ loop-less : tie.Need-loop-less Inv-loop μ-loop
 loop-less c = omega arith
 
 loop-again : tie.Need-loop-again Inv-loop μ-loop
-loop-again c = looking-more (turn (c .before .before)) (sym (c .before .corrects .ensures) ∙ c .if1 .left)
+loop-again c =
+    let b = c .before .before in
+    looking-more (b .before .before .before .before .before .loop .inv) (pair b) (sym (c .before .corrects .ensures) ∙ c .if1 .left)
 
 returns-2 : tie.Need-returns-2 Inv-loop μ-loop
 returns-2 c = looking-all (c .before .loop .inv) (c .loop-test .left)

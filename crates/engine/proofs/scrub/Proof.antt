@@ -1,68 +1,112 @@
 -- `engine::scrub` meets its contract.
 -- Assumes nothing.
 use borrow.Author.Needs.{needs}
-use mathlib.Core.Path.{_∙_}
-use Rattle.engine.proofs.Scrubs.{scrub-refused, scrub-worn, scrub-done}
+use borrow.Author.Tests.{not-true, not-false}
+use mathlib.Core.Path.{_≡_, sym, ap, _∙_}
+use Prim.Native.Nat.{ℕ}
+use Rattle.order.specs.declared.Refusal.the-variants.{Blank}
+use Rattle.order.specs.Order.{orderRecord}
+use Rattle.order.specs.Refusals.{outcomeNumber, numberOf, Told}
+use Rattle.order.proofs.Refusals.{accepted}
+use Rattle.code.specs.Calls.{Reading, toldCorrected, correctedOf}
+use Rattle.group.specs.Record.{groupChecks}
+use Rattle.engine.specs.Calls.{sensedOrder}
+use Rattle.engine.proofs.Answers.{sense-number, sense-record, read-refused, read-blank}
+use Rattle.engine.proofs.Scrubs.{scrub-refused, scrub-lost, scrub-found}
 use Rattle.engine.proofs.scrub.Statement.{statement}
 use Rattle.engine.proofs.scrub.Tie as tie
 
-read-requires : tie.Need-read-requires
-read-requires c κs = search needs
+abbrev number : Told Reading → ℕ
+number t = t .number
 
-enum-known-answer : tie.Need-enum-known-answer
-enum-known-answer c = search needs
+sense-requires : tie.Need-sense-requires
+sense-requires c κs = search needs
 
 enum-told : tie.Need-enum-told
 enum-told c = search needs
 
-from-read-requires : tie.Need-from-read-requires
-from-read-requires c κs = search needs
-
-returns : tie.Need-returns
-returns c =
-    let a = c .before .before .before in
-    c .from-read .ensures ∙ scrub-refused _ (a .read .result) (a .read .ensures) (c .before .enum-told .given .1)
-
-store-requires : tie.Need-store-requires
-store-requires c κs = search needs
-
 enum-told-2 : tie.Need-enum-told-2
 enum-told-2 c = search needs
-
-enum-told-3 : tie.Need-enum-told-3
-enum-told-3 c = search needs
 
 unchanged-requires : tie.Need-unchanged-requires
 unchanged-requires c κs = search needs
 
+returns : tie.Need-returns
+returns c =
+    let told = c .before .enum-told2 .given in
+    let a = c .before .before .before .sense in
+    let e = sym (sense-number _ (a .result) (a .ensures)) ∙ ap outcomeNumber (told .1) in
+    c .unchanged .ensures ∙ rw (told .1) (scrub-refused _ (told .0 .0) (sym (ap number (read-refused _ (told .0 .0) e))))
+
+-- the record has passed
+passed : (c : tie.After-enum-told) → numberOf (groupChecks (c .before .before .before .args .g)) ≡ 0
+passed c = accepted (sense-number _ (c .before .before .sense .result) (c .before .before .sense .ensures)) (c .enum-told .given .1)
+
+unchanged-requires-2 : tie.Need-unchanged-requires-2
+unchanged-requires-2 c κs = search needs
+
 returns-2 : tie.Need-returns-2
 returns-2 c =
-    let b = c .before .before .before in
-    let s = b .before .before in
-    let a = s .before .before in
-    c .unchanged .ensures
-    ∙ scrub-worn _ (a .read .result) (a .read .ensures) (s .answer .given .1) (b .store .result) (b .store .ensures) (c .before .enum-told3 .given .1)
+    let b = c .before in
+    c .unchanged2 .ensures ∙ scrub-refused _ Blank (sym (ap number (read-blank _ (passed (b .before .before)) (not-true _ (b .if1 .taken)))))
+
+corrected-requires : tie.Need-corrected-requires
+corrected-requires c κs = search needs
+
+-- the sensed order is put right
+found : (c : tie.After-corrected) →
+    toldCorrected (c .corrected .result) ≡ correctedOf (orderRecord (sensedOrder (c .before .before .before .before .before .before .before .args .g)))
+found c =
+    let e = c .before .before .before .before in
+    let a = e .before .before .sense in
+    c .corrected .ensures ∙ ap correctedOf (sense-record _ (a .result) (a .ensures) (passed e))
+
+enum-known-answer : tie.Need-enum-known-answer
+enum-known-answer c = search needs
+
+unchanged-requires-3 : tie.Need-unchanged-requires-3
+unchanged-requires-3 c κs = search needs
+
+enum-known-answer-2 : tie.Need-enum-known-answer-2
+enum-known-answer-2 c = search needs
+
+write-requires : tie.Need-write-requires
+write-requires c κs = search needs
+
+rewritten-requires : tie.Need-rewritten-requires
+rewritten-requires c κs = search needs
 
 returns-3 : tie.Need-returns-3
 returns-3 c =
-    let o = c .before .before in
-    let b = o .before .before in
-    let s = b .before .before in
-    let a = s .before .before in
-    scrub-done _ (a .read .result) (a .read .ensures) (s .answer .given .1) (b .store .result) (b .store .ensures) (o .enum-told2 .given .1)
+    let b = c .before .before in
+    let f = b .before .before in
+    let e = f .before .before in
+    c .unchanged3 .ensures ∙ scrub-lost _ (passed (e .before .before)) (not-false _ (e .if1 .left)) (f .corrected .result) (found f) (b .answer .given .1)
+
+returns-4 : tie.Need-returns-4
+returns-4 c =
+    let b = c .before .before .before .before in
+    let f = b .before .before in
+    let e = f .before .before in
+    c .rewritten .ensures
+    ∙ scrub-found _ (passed (e .before .before)) (not-false _ (e .if1 .left)) (f .corrected .result) (found f) (b .answer2 .given .1) (c .before .write .ensures)
 
 pub scrub-spec : {M : Type 1} → statement M
 scrub-spec =
     tie.close
     (tie.spec
-    read-requires
-    enum-known-answer
+    sense-requires
     enum-told
-    from-read-requires
-    returns
-    store-requires
     enum-told-2
-    enum-told-3
     unchanged-requires
+    returns
+    unchanged-requires-2
     returns-2
-    returns-3)
+    corrected-requires
+    enum-known-answer
+    unchanged-requires-3
+    enum-known-answer-2
+    write-requires
+    rewritten-requires
+    returns-3
+    returns-4)
