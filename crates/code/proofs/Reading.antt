@@ -65,11 +65,11 @@ module _ (o : Order) where
         → record { number = 0; value = record { reading = record { symbol = s; verdict = some Clean }; word = o } } ≡ correctedOf o
     corrected-clean w e s number = rw (record-back o d w) at (corrected-found 0 e (omega (arith, passed o d .0)) s number)
 
-    pub corrected-put-right : (k : ℕ) → correction n u ≡ k → 1 ≤ k → k < n → (s : ℕ) → s ≡ symbolOf n (exchange k u)
-        → record { number = 0; value = record { reading = record { symbol = s; verdict = some (PutRight (record { 0 = k })) }; word = exchangedOrder o k } } ≡ correctedOf o
+    pub corrected-put-right : (k : ℕ) → correction n u ≡ k → 1 ≤ k → k < n → (s : ℕ) → s ≡ symbolOf n (exchange k u) → (w : Order) → w ≡ exchangedOrder o k
+        → record { number = 0; value = record { reading = record { symbol = s; verdict = some (PutRight (record { 0 = k })) }; word = w } } ≡ correctedOf o
     unfolding exchangedOrder
-    corrected-put-right zero e g = absurd (omega arith)
-    corrected-put-right (suc k) e g = corrected-found (suc k) e
+    corrected-put-right zero e g l s number w found = absurd (omega arith)
+    corrected-put-right (suc k) e g l s number w found = rw found (corrected-found (suc k) e l s number)
 
 -- the codeword found
 pub corrected-word : (o : Order) → correctedOf o .number ≡ 0 → correctedOf o .value .word ≡ orderRecord (exchange (correction (o .len) (listed o)) (listed o))

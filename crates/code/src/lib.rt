@@ -377,12 +377,14 @@ pub fn corrected(o: Order) -> CorrectedAnswer
     if o.len <= k {
         return no_word(Refusal::Lost);
     }
+    let word = exchanged(o, k);
+    let place = k as u8;
     CorrectedAnswer {
         answer: DecodeAnswer::Decoded {
             symbol: number(corrected_coordinates(x, o, k)),
-            verdict: Verdict::PutRight(Rank(k as u8)),
+            verdict: Verdict::PutRight(Rank(place)),
         },
-        word: exchanged(o, k),
+        word,
     }
 }
 

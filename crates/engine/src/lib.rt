@@ -149,7 +149,8 @@ pub fn scrub(g: Group) -> Applied
     let Outcome::Done = sensing else {
         return unchanged(sensing, g);
     };
-    if !g.written {
+    let written = g.written;
+    if !written {
         return unchanged(Outcome::Refused(Refusal::Blank), g);
     }
     let order = sensed.order;
@@ -165,25 +166,25 @@ pub fn scrub(g: Group) -> Applied
 }
 
 // The answer of a scrub that found a codeword, by that of its write.
-fn rewritten(g: Group, answer: Written, symbol: u32, verdict: Verdict) -> Applied
+fn rewritten(g: Group, written: Written, symbol: u32, verdict: Verdict) -> Applied
     ensures { λ r. ⌜ toldApplied r ≡ record {
-      number = toldWritten answer .number;
-      value = ifDone (toldWritten answer .number) (programmedStep (toldWritten answer .value) symbol (some verdict)) (quiet g);
+      number = toldWritten written .number;
+      value = ifDone (toldWritten written .number) (programmedStep (toldWritten written .value) symbol (some verdict)) (quiet g);
     } ⌝ }
 {
-    let outcome = answer.outcome;
+    let outcome = written.outcome;
     let Outcome::Done = outcome else {
         return unchanged(outcome, g);
     };
-    let group = answer.group;
-    let pushes = answer.pushes;
+    let group = written.group;
+    let pushes = written.pushes;
     Applied {
         outcome: Outcome::Done,
         group,
         symbol,
         verdict: Judged::By(verdict),
-        pulses: answer.pulses,
-        count: answer.count,
+        pulses: written.pulses,
+        count: written.count,
         pushes,
     }
 }

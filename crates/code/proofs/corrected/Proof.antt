@@ -88,29 +88,31 @@ place c =
     let f = c .before .before in
     read-place (exchange-for-requires (f .before) tt) (f .exchange-for .ensures) (c .if2 .left)
 
-corrected-coordinates-requires : tie.Need-corrected-coordinates-requires
-corrected-coordinates-requires c κs = (place c .0, coordinates (c .before .before .before .before .before .before))
+exchanged-requires : tie.Need-exchanged-requires
+exchanged-requires c κs = place c .0
 
-number-requires-2 : tie.Need-number-requires-2
-number-requires-2 c κs = let (e, code) = place (c .before) in exchanged-word _ _ e _ (c .corrected-coordinates .ensures) code
-
-cast-t15 : tie.Need-cast-t15
-cast-t15 c =
-    let l = c .before .before in
+cast-place : tie.Need-cast-place
+cast-place c =
+    let l = c .before in
     let e = place l .0 in
     omega (arith, e .last, passed (read (l .before .before .before .before .before .before)) (e .passed) .1)
 
-exchanged-requires : tie.Need-exchanged-requires
-exchanged-requires c κs = place (c .before .before) .0
+corrected-coordinates-requires : tie.Need-corrected-coordinates-requires
+corrected-coordinates-requires c κs =
+    let l = c .before in
+    (place l .0, coordinates (l .before .before .before .before .before .before))
+
+number-requires-2 : tie.Need-number-requires-2
+number-requires-2 c κs = let (e, code) = place (c .before .before) in exchanged-word _ _ e _ (c .corrected-coordinates .ensures) code
 
 returns-4 : tie.Need-returns-4
 returns-4 c =
-    let n = c .before in
-    let l = n .before .before in
+    let w = c .before .before in
+    let l = w .before in
     let f = l .before .before .exchange-for in
     let e = place l .0 in
-    let symbol = n .number2 .ensures ∙ exchanged-number _ _ e _ (n .before .corrected-coordinates .ensures) in
-    rw (c .exchanged .ensures) (corrected-put-right _ (e .passed) (f .result) (sym (f .ensures)) (e .first) (e .last) _ symbol)
+    let symbol = c .number2 .ensures ∙ exchanged-number _ _ e _ (c .before .corrected-coordinates .ensures) in
+    corrected-put-right _ (e .passed) (f .result) (sym (f .ensures)) (e .first) (e .last) _ symbol _ (w .exchanged .ensures)
 
 pub corrected-spec : {M : Type 1} → statement M
 corrected-spec =
@@ -127,8 +129,8 @@ corrected-spec =
     exchange-for-requires
     no-word-requires-2
     returns-3
+    exchanged-requires
+    cast-place
     corrected-coordinates-requires
     number-requires-2
-    cast-t15
-    exchanged-requires
     returns-4)

@@ -48,16 +48,16 @@ unchanged-requires-2 c κs = search needs
 returns-2 : tie.Need-returns-2
 returns-2 c =
     let b = c .before in
-    c .unchanged2 .ensures ∙ scrub-refused _ Blank (sym (ap number (read-blank _ (passed (b .before .before)) (not-true _ (b .if1 .taken)))))
+    c .unchanged2 .ensures ∙ scrub-refused _ Blank (sym (ap number (read-blank _ (passed (b .before)) (not-true _ (b .if1 .taken)))))
 
 corrected-requires : tie.Need-corrected-requires
 corrected-requires c κs = search needs
 
 -- the sensed order is put right
 found : (c : tie.After-corrected) →
-    toldCorrected (c .corrected .result) ≡ correctedOf (orderRecord (sensedOrder (c .before .before .before .before .before .before .before .args .g)))
+    toldCorrected (c .corrected .result) ≡ correctedOf (orderRecord (sensedOrder (c .before .before .before .before .before .before .args .g)))
 found c =
-    let e = c .before .before .before .before in
+    let e = c .before .before .before in
     let a = e .before .before .sense in
     c .corrected .ensures ∙ ap correctedOf (sense-record _ (a .result) (a .ensures) (passed e))
 
@@ -81,7 +81,7 @@ returns-3 c =
     let b = c .before .before in
     let f = b .before .before in
     let e = f .before .before in
-    c .unchanged3 .ensures ∙ scrub-lost _ (passed (e .before .before)) (not-false _ (e .if1 .left)) (f .corrected .result) (found f) (b .answer .given .1)
+    c .unchanged3 .ensures ∙ scrub-lost _ (passed (e .before)) (not-false _ (e .if1 .left)) (f .corrected .result) (found f) (b .answer .given .1)
 
 returns-4 : tie.Need-returns-4
 returns-4 c =
@@ -89,7 +89,7 @@ returns-4 c =
     let f = b .before .before in
     let e = f .before .before in
     c .rewritten .ensures
-    ∙ scrub-found _ (passed (e .before .before)) (not-false _ (e .if1 .left)) (f .corrected .result) (found f) (b .answer2 .given .1) (c .before .write .ensures)
+    ∙ scrub-found _ (passed (e .before)) (not-false _ (e .if1 .left)) (f .corrected .result) (found f) (b .answer2 .given .1) (c .before .write .ensures)
 
 pub scrub-spec : {M : Type 1} → statement M
 scrub-spec =
