@@ -25,11 +25,7 @@ use Rattle.calls.specs.declared.Request.{Request}
 use Rattle.calls.specs.declared.Request.the-variants.{Bad, Open, Apply}
 use Rattle.calls.specs.Records.{Answer, requestOf, stepBy, stepOf}
 use Rattle.calls.specs.Text.{allPulses}
-
--- the group after some records
-abbrev pub groupAfter : Group → List CallRecord → Group
-groupAfter g [] = g
-groupAfter g (r ∷ rs) = groupAfter (stepOf g r .value .group) rs
+use Rattle.calls.specs.Pieces.{groupAfter}
 
 abbrev pub isOpen : Request → Bool
 isOpen Bad = false
@@ -52,7 +48,7 @@ callsOf [] = []
 callsOf (r ∷ rs) = asked (requestOf r) (callsOf rs)
 
 -- a record is the request that it makes
-by-request : (g : Group) (r : CallRecord) (q : Request) → requestOf r ≡ q → stepOf g r ≡ stepBy g q
+pub by-request : (g : Group) (r : CallRecord) (q : Request) → requestOf r ≡ q → stepOf g r ≡ stepBy g q
 unfolding stepOf
 by-request g r q e = ap (stepBy g) e
 
@@ -103,7 +99,7 @@ zero-stays (Wear c cap) = refl
 zero-stays Erase = refl
 zero-stays Read = refl
 
-request-begun : (g : Group) (q : Request) → Begun g → Begun (stepBy g q .value .group)
+pub request-begun : (g : Group) (q : Request) → Begun g → Begun (stepBy g q .value .group)
 request-begun g Bad b = b
 request-begun g (Open n) b = opened (openOf n .number) refl
   where
@@ -113,9 +109,11 @@ request-begun g (Open n) b = opened (openOf n .number) refl
 request-begun g (Apply kind) (inl e) = inl (ap (λ (h : Group). applyOf h (record { kind = kind; target = noOrder }) .value .group) e ∙ zero-stays kind)
 request-begun g (Apply kind) (inr h) = inr (apply-group g (record { kind = kind; target = noOrder }) h)
 
+pub step-begun : (g : Group) (r : CallRecord) → Begun g → Begun (stepOf g r .value .group)
+step-begun g r b =
+    subst (λ (t : Told Answer). Begun (t .value .group)) (sym (by-request g r (requestOf r) refl)) (request-begun g (requestOf r) b)
+
 -- the group that a stream has is the all-zero record or a group: `-` stands for the all-zero record alone
 pub stream-begun : (g : Group) (rs : List CallRecord) → Begun g → Begun (groupAfter g rs)
 stream-begun g [] b = b
-stream-begun g (r ∷ rs) b =
-    stream-begun (stepOf g r .value .group) rs
-    (subst (λ (t : Told Answer). Begun (t .value .group)) (sym (by-request g r (requestOf r) refl)) (request-begun g (requestOf r) b))
+stream-begun g (r ∷ rs) b = stream-begun (stepOf g r .value .group) rs (step-begun g r b)

@@ -1,117 +1,142 @@
--- The records of an input, one line for each, as `put_lines` goes through them.
+-- The records of a piece, one line for each, as `put_lines` goes through them.
 -- Assumes nothing.
 use mathlib.Core.Path.{_≡_, refl, sym, ap, _∙_}
-use Prim.Native.Nat.{ℕ, suc, _+_, _*_, _≤_, _<_}
+use mathlib.Core.Bool.{true}
+use Prim.Native.Nat.{ℕ, suc, _+_, _*_, _/_, _≤_, _<_}
 use native.Mathlib.Omega.{arith}
-use native.Mathlib.Nat.{add-zero, zero-add}
+use native.Mathlib.Nat.{add-zero}
 use mathlib.Core.List.{List, [], _∷_, _++_, append-assoc, append-nil}
+use lib.Dec.{leb}
 use lib.ListN.{length, drop}
 use lib.Seq.{drop-cons, drop-length}
+use borrow.Author.Tests.{leb-true}
 use Rattle.order.specs.Refusals.{Told}
-use Rattle.order.specs.Cells.{tabulate}
+use Rattle.order.proofs.Cells.{both}
 use Rattle.order.proofs.Tabulate.{length-tabulate, getD-tabulate}
-use Rattle.group.specs.declared.Group.{Group}
-use Rattle.group.specs.Record.{noGroup}
 use Rattle.calls.specs.declared.CallRecord.{CallRecord}
 use Rattle.calls.specs.declared.Answered.{Answered}
-use Rattle.calls.specs.Records.{recordAt, Answer, toldAnswered, stepOf}
-use Rattle.calls.specs.Text.{lineOf, lines, allPulses}
+use Rattle.calls.specs.declared.Progress.{Progress}
+use Rattle.calls.specs.Records.{recordAt, records, Answer, toldAnswered, stepOf}
+use Rattle.calls.specs.Text.{lineOf, lines, allPulses, room}
+use Rattle.calls.specs.Pieces.{progressAfter, linesFrom, takes}
 use Rattle.calls.specs.Steps.{Puts}
 use Rattle.calls.proofs.Paste.{puts-none, puts-join, puts-as}
+use Rattle.calls.proofs.Follow.{lines-follow, progress-follows}
 
--- the first records of some bytes
-abbrev pub first : ℕ → List ℕ → List CallRecord
-first count bs = tabulate count (recordAt bs)
+-- what it is that a run takes a piece
+pub taken-parts : (k q size space : ℕ) → takes k q size space ≡ true → (k + size / 8 ≤ 8192) × (q ≤ 4294967295 * k) × (room size ≤ space)
+taken-parts k q size space e =
+    let t = both (leb (k + size / 8) 8192) _ e in
+    let u = both (leb q (4294967295 * k)) (leb (room size) space) (t .1) in
+    (leb-true _ _ (t .0), leb-true _ _ (u .0), leb-true _ _ (u .1))
 
-next-record : (count : ℕ) (bs : List ℕ) (i : ℕ) → i < count → drop i (first count bs) ≡ recordAt bs i ∷ drop (i + 1) (first count bs)
-next-record count bs i h =
-    let l : length (first count bs) ≡ count = length-tabulate count (recordAt bs) in
+next-record : (bs : List ℕ) (i : ℕ) → i < length bs / 8 → drop i (records bs) ≡ recordAt bs i ∷ drop (i + 1) (records bs)
+unfolding records
+next-record bs i h =
+    let l : length (records bs) ≡ length bs / 8 = length-tabulate (length bs / 8) (recordAt bs) in
     let next : suc i ≡ i + 1 = omega arith in
-    drop-cons (first count bs) i (recordAt bs i) (omega arith)
-    ∙ ap (λ (r : CallRecord). r ∷ drop (suc i) (first count bs)) (getD-tabulate count (recordAt bs) i (recordAt bs i) h)
-    ∙ ap (λ (k : ℕ). recordAt bs i ∷ drop k (first count bs)) next
+    drop-cons (records bs) i (recordAt bs i) (omega arith)
+    ∙ ap (λ (r : CallRecord). r ∷ drop (suc i) (records bs)) (getD-tabulate (length bs / 8) (recordAt bs) i (recordAt bs i) h)
+    ∙ ap (λ (k : ℕ). recordAt bs i ∷ drop k (records bs)) next
 
-none-left : (count : ℕ) (bs : List ℕ) → drop count (first count bs) ≡ []
-none-left count bs =
-    ap (λ (k : ℕ). drop k (first count bs)) (sym (length-tabulate count (recordAt bs))) ∙ drop-length (first count bs)
+none-left : (bs : List ℕ) → drop (length bs / 8) (records bs) ≡ []
+unfolding records
+none-left bs =
+    ap (λ (k : ℕ). drop k (records bs)) (sym (length-tabulate (length bs / 8) (recordAt bs))) ∙ drop-length (records bs)
 
-line-first : (k : ℕ) (g : Group) (r : CallRecord) (rs : List CallRecord)
-    → lines (k + 1) g (r ∷ rs) ≡ lineOf (k + 1) (r .kind) (stepOf g r) ++ lines (k + 1 + 1) (stepOf g r .value .group) rs
-unfolding lines
-line-first k g r rs =
-    let next : suc (k + 1) ≡ k + 1 + 1 = omega arith in
-    ap (λ (j : ℕ). lineOf (k + 1) (r .kind) (stepOf g r) ++ lines j (stepOf g r .value .group) rs) next
+-- one record more
+module _ (q : Progress) (r : CallRecord) (a : Answered) (s : toldAnswered a ≡ stepOf (q .group) r) where
+  pub after-one : progressAfter q (r ∷ []) ≡ record { records = q .records + 1; group = a .group; pulses = q .pulses + a .pulses }
+  unfolding allPulses
+  after-one =
+      let pulses : q .pulses + (stepOf (q .group) r .value .pulses + 0) ≡ q .pulses + a .pulses =
+      ap (λ (t : Told Answer). q .pulses + (t .value .pulses + 0)) (sym s) ∙ ap (λ (k : ℕ). q .pulses + k) (add-zero (a .pulses)) in
+      λ i. record { records = q .records + 1; group = (ap (λ (t : Told Answer). t .value .group) (sym s)) i; pulses = pulses i }
 
-pulses-first : (g : Group) (r : CallRecord) (rs : List CallRecord)
-    → allPulses g (r ∷ rs) ≡ stepOf g r .value .pulses + allPulses (stepOf g r .value .group) rs
-unfolding allPulses
-pulses-first g r rs = refl
+  pub line-one : linesFrom q (r ∷ []) ≡ lineOf (q .records + 1) (r .kind) (toldAnswered a)
+  unfolding lines
+  line-one =
+      let next : suc (q .records) ≡ q .records + 1 = omega arith in
+      append-nil _ ∙ ap (λ (t : Told Answer). lineOf (suc (q .records)) (r .kind) t) (sym s)
+      ∙ ap (λ (k : ℕ). lineOf k (r .kind) (toldAnswered a)) next
 
--- the loop: i records are done, the last of which left the group g; what was put and the lines to come are all the lines
-pub record Running (bs : List ℕ) (count : ℕ) (empty now : List ℕ) (g : Group) (pulses end i : ℕ) : Type 0 where
+-- the loop: i records of the piece are done, and the run stands at q; what was put and the lines to come are all the lines, and the run goes
+-- from q where it goes from p
+pub record Running (p : Progress) (bs : List ℕ) (count : ℕ) (empty now : List ℕ) (q : Progress) (end i : ℕ) : Type 0 where
+  pub whole : count ≡ length bs / 8
   pub reached : i ≤ count
-  pub few : count ≤ 8192
-  pub whole : 8 * count ≤ length bs
+  pub few : p .records + count ≤ 8192
   pub room : 128 * count ≤ length empty
   pub within : end ≤ 128 * i
-  pub small : pulses ≤ 4294967295 * i
+  pub place : q .records ≡ p .records + i
+  pub small : q .pulses ≤ 4294967295 * q .records
   pub said : List ℕ
   pub puts : Puts empty now 0 end said
-  pub rest : said ++ lines (i + 1) g (drop i (first count bs)) ≡ lines 1 noGroup (first count bs)
-  pub sum : pulses + allPulses g (drop i (first count bs)) ≡ allPulses noGroup (first count bs)
+  pub rest : said ++ linesFrom q (drop i (records bs)) ≡ linesFrom p (records bs)
+  pub goes : progressAfter q (drop i (records bs)) ≡ progressAfter p (records bs)
 
-pub running-starts : {bs empty : List ℕ} {count : ℕ} → count ≤ 8192 → 8 * count ≤ length bs → 128 * count ≤ length empty
-    → Running bs count empty empty noGroup 0 0 0
-running-starts {bs} {empty} {count} f w r =
+pub running-starts : {p : Progress} {bs empty : List ℕ} → takes (p .records) (p .pulses) (length bs) (length empty) ≡ true
+    → Running p bs (length bs / 8) empty empty p 0 0
+running-starts {p} {bs} {empty} e =
+    let t = taken-parts (p .records) (p .pulses) (length bs) (length empty) e in
     record {
+      whole = refl;
       reached = omega arith;
-      few = f;
-      whole = w;
-      room = r;
+      few = t .0;
+      room = omega (arith, t .2);
       within = omega arith;
-      small = omega arith;
+      place = sym (add-zero (p .records));
+      small = t .1;
       said = [];
       puts = puts-none empty 0 (omega arith);
       rest = refl;
-      sum = zero-add (allPulses noGroup (first count bs));
+      goes = refl;
     }
 
-pub running-steps : {bs empty now later : List ℕ} {count pulses end next i : ℕ} {g : Group} {r : CallRecord} (a : Answered)
-    → Running bs count empty now g pulses end i → i < count → r ≡ recordAt bs i → toldAnswered a ≡ stepOf g r → a .pulses < 4294967296
-    → Puts now later end next (lineOf (i + 1) (r .kind) (toldAnswered a)) → next ≤ end + 128
-    → Running bs count empty later (a .group) (pulses + a .pulses) next (i + 1)
-running-steps {bs} {empty} {now} {later} {count} {pulses} {end} {next} {i} {g} {r} a run h e s b p n =
-    let rs = drop (i + 1) (first count bs) in
-    let here : drop i (first count bs) ≡ r ∷ rs = next-record count bs i h ∙ ap (λ (q : CallRecord). q ∷ rs) (sym e) in
-    let line = lineOf (i + 1) (r .kind) (toldAnswered a) in
-    let text : lines (i + 1) g (drop i (first count bs)) ≡ line ++ lines (i + 1 + 1) (a .group) rs =
-    ap (lines (i + 1) g) here ∙ line-first i g r rs
-    ∙ ap (λ (t : Told Answer). lineOf (i + 1) (r .kind) t ++ lines (i + 1 + 1) (t .value .group) rs) (sym s) in
-    let more : allPulses g (drop i (first count bs)) ≡ a .pulses + allPulses (a .group) rs =
-    ap (allPulses g) here ∙ pulses-first g r rs ∙ ap (λ (t : Told Answer). t .value .pulses + allPulses (t .value .group) rs) (sym s) in
+pub running-steps : {p q : Progress} {bs empty now later : List ℕ} {count end next i : ℕ} {r : CallRecord} (a : Answered)
+    → Running p bs count empty now q end i → i < count → r ≡ recordAt bs i → toldAnswered a ≡ stepOf (q .group) r → a .pulses < 4294967296
+    → Puts now later end next (lineOf (q .records + 1) (r .kind) (toldAnswered a)) → next ≤ end + 128
+    → Running p bs count empty later (record { records = q .records + 1; group = a .group; pulses = q .pulses + a .pulses }) next (i + 1)
+running-steps {p} {q} {bs} {empty} {now} {later} {count} {end} {next} {i} {r} a run h e s b w n =
+    let rs = drop (i + 1) (records bs) in
+    let after : Progress = record { records = q .records + 1; group = a .group; pulses = q .pulses + a .pulses } in
+    let line = lineOf (q .records + 1) (r .kind) (toldAnswered a) in
+    let here : drop i (records bs) ≡ r ∷ rs = next-record bs i (omega (arith, run .whole)) ∙ ap (λ (x : CallRecord). x ∷ rs) (sym e) in
+    let one : progressAfter q (r ∷ []) ≡ after = after-one q r a s in
+    let text : linesFrom q (drop i (records bs)) ≡ line ++ linesFrom after rs =
+    ap (linesFrom q) here ∙ lines-follow q (r ∷ []) rs ∙ ap (λ (t : List ℕ). t ++ linesFrom (progressAfter q (r ∷ [])) rs) (line-one q r a s)
+    ∙ ap (λ (x : Progress). line ++ linesFrom x rs) one in
     record {
+      whole = run .whole;
       reached = omega arith;
       few = run .few;
-      whole = run .whole;
       room = run .room;
       within = omega (arith, run .within);
+      place = omega (arith, run .place);
       small = omega (arith, run .small);
       said = run .said ++ line;
-      puts = puts-join (run .puts) p;
-      rest = append-assoc (run .said) line (lines (i + 1 + 1) (a .group) rs) ∙ ap (λ (t : List ℕ). run .said ++ t) (sym text) ∙ run .rest;
-      sum = omega (arith, more, run .sum);
+      puts = puts-join (run .puts) w;
+      rest = append-assoc (run .said) line (linesFrom after rs) ∙ ap (λ (t : List ℕ). run .said ++ t) (sym text) ∙ run .rest;
+      goes =
+          ap (λ (x : Progress). progressAfter x rs) (sym one) ∙ sym (progress-follows q (r ∷ []) rs) ∙ ap (progressAfter q) (sym here) ∙ run .goes;
     }
 
 -- where all records are done
-module _ {bs empty now : List ℕ} {count pulses end i : ℕ} {g : Group} (run : Running bs count empty now g pulses end i) (h : count ≤ i) where
-  nothing-left : drop i (first count bs) ≡ []
-  nothing-left = let e : i ≡ count = omega (arith, run .reached) in ap (λ (k : ℕ). drop k (first count bs)) e ∙ none-left count bs
+module _ {p q : Progress} {bs empty now : List ℕ} {count end i : ℕ} (run : Running p bs count empty now q end i) (h : count ≤ i) where
+  nothing-left : drop i (records bs) ≡ []
+  nothing-left = let e : i ≡ length bs / 8 = omega (arith, run .reached, run .whole) in ap (λ (k : ℕ). drop k (records bs)) e ∙ none-left bs
 
-  pub lines-put : Puts empty now 0 end (lines 1 noGroup (first count bs))
+  pub lines-put : Puts empty now 0 end (linesFrom p (records bs))
   unfolding lines
   lines-put =
-      puts-as (sym (append-nil (run .said)) ∙ ap (λ (rs : List CallRecord). run .said ++ lines (i + 1) g rs) (sym nothing-left) ∙ run .rest) (run .puts)
+      puts-as (sym (append-nil (run .said)) ∙ ap (λ (rs : List CallRecord). run .said ++ linesFrom q rs) (sym nothing-left) ∙ run .rest) (run .puts)
 
-  pub pulses-added : pulses ≡ allPulses noGroup (first count bs)
+  after-none : (x : Progress) → x ≡ progressAfter x []
   unfolding allPulses
-  pulses-added = sym (add-zero pulses) ∙ ap (λ (rs : List CallRecord). pulses + allPulses g rs) (sym nothing-left) ∙ run .sum
+  after-none x =
+      let records : x .records ≡ x .records + 0 = sym (add-zero (x .records)) in
+      let pulses : x .pulses ≡ x .pulses + 0 = sym (add-zero (x .pulses)) in
+      λ j. record { records = records j; group = x .group; pulses = pulses j }
+
+  pub progress-made : q ≡ progressAfter p (records bs)
+  progress-made = after-none q ∙ ap (progressAfter q) (sym nothing-left) ∙ run .goes

@@ -1,3 +1,4 @@
 pub mod Records
 pub mod Text
+pub mod Pieces
 pub mod Steps

@@ -12,6 +12,7 @@ use order::Order;
 use order::Outcome;
 use order::Refusal;
 ghost use mathlib.Core.Path.{_≡_};
+ghost use mathlib.Core.Bool.{true};
 ghost use mathlib.Core.List.{[], _∷_, _++_};
 ghost use Prim.Native.Nat.{_+_, _*_, _/_, _%_, _≤_, _<_, min};
 ghost use lib.ListN.{length, take, drop};
@@ -22,8 +23,9 @@ ghost use Rattle.group.specs.Record.{noGroup};
 ghost use Rattle.group.specs.Calls.{toldChanged, toldWritten, openOf};
 ghost use Rattle.engine.specs.Calls.{toldRead};
 ghost use Rattle.engine.specs.Machine.{toldApplied, afterProgram, afterChange, afterRead, applyOf};
-ghost use Rattle.calls.specs.Records.{lowFirst, recordAt, usesCell, unusedZero, requestOf, toldAnswered, groupAlone, afterApply, afterOpen, stepOf};
-ghost use Rattle.calls.specs.Text.{decimal, after, levelText, numbersOf, lineOf, lines, allPulses, leftLine, sumLine, room, printed};
+ghost use Rattle.calls.specs.Records.{lowFirst, recordAt, records, usesCell, unusedZero, requestOf, toldAnswered, groupAlone, afterApply, afterOpen, stepOf};
+ghost use Rattle.calls.specs.Text.{decimal, after, levelText, numbersOf, lineOf, leftLine, sumLine, room, printed};
+ghost use Rattle.calls.specs.Pieces.{beginning, progressAfter, linesFrom, takes, pieceOf, linesPrinted, endPrinted};
 ghost use Rattle.calls.specs.Steps.{Puts, pair};
 
 const BLANK: u8 = 32;
@@ -60,10 +62,17 @@ pub enum Request {
     Apply(Kind),
 }
 
-// Where the lines of the records end, and the pulses of all of them.
-struct Lines {
-    end: usize,
-    pulses: u64,
+// Where a run stands between two pieces of its input: how many records were answered, the group that the last of them left, and the pulses of all.
+pub struct Progress {
+    pub records: u32,
+    pub group: Group,
+    pub pulses: u64,
+}
+
+// Where the lines of a piece end, and where the run then stands.
+pub struct Piece {
+    pub end: usize,
+    pub progress: Progress,
 }
 
 // The answer to a record, for the group that the record before it left. A refused open keeps that group.
@@ -84,13 +93,65 @@ pub fn run(input: &[u8], out: &mut [u8]) -> usize
     ensures { λ r. ⌜ r ≡ length (printed (now (input .entry)) (now (out .entry))) ⌝ }
     ensures { λ r. ⌜ now (out .exit) ≡ printed (now (input .entry)) (now (out .entry)) ++ drop r (now (out .entry)) ⌝ }
 {
-    let size = size_read(input.len());
-    if out.len() < 16 * size + 64 {
+    finish(begin(), &input[..size_read(input.len())], out)
+}
+
+// Where a run stands before its first record: the all-zero record is what that one is handed.
+pub fn begin() -> Progress
+    ensures { λ p. ⌜ p ≡ beginning ⌝ }
+{
+    Progress {
+        records: 0,
+        group: Group {
+            n: 0,
+            levels: [0; 12],
+            caps: [0; 12],
+            written: false,
+        },
+        pulses: 0,
+    }
+}
+
+// Puts the lines of a piece's whole records at the start of out, and answers where they end and where the run then stands. Bytes that fill no
+// record are left out: a piece that is not the last should have none. Where out is shorter than 16 bytes for each byte of the piece, and 64, or
+// where no run of 65,536 bytes stands so, nothing is put and nothing goes on.
+pub fn go_on(p: Progress, input: &[u8], out: &mut [u8]) -> Piece
+    ensures { λ r. ⌜ r ≡ pieceOf p (now (input .entry)) (now (out .entry)) ⌝ }
+    ensures { λ r. ⌜ now (out .exit) ≡ linesPrinted p (now (input .entry)) (now (out .entry)) ++ drop (r .end) (now (out .entry)) ⌝ }
+{
+    if !goes_on(p.records, p.pulses, input.len(), out.len()) {
+        return Piece { end: 0, progress: p };
+    }
+    put_lines(p, input, out)
+}
+
+// Puts the lines of the last piece, the line of its leftover bytes and that of all pulses at the start of out, and answers how many bytes
+// that is. Where `go_on` puts nothing, neither does this, and the answer is 0.
+pub fn finish(p: Progress, input: &[u8], out: &mut [u8]) -> usize
+    ensures { λ r. ⌜ r ≡ length (endPrinted p (now (input .entry)) (now (out .entry))) ⌝ }
+    ensures { λ r. ⌜ now (out .exit) ≡ endPrinted p (now (input .entry)) (now (out .entry)) ++ drop r (now (out .entry)) ⌝ }
+{
+    let size = input.len();
+    if !goes_on(p.records, p.pulses, size, out.len()) {
         return 0;
     }
-    let records = put_lines(&input[..size], size / 8, out);
-    let left = put_left(out, records.end, size % 8);
-    put_sum(out, left, records.pulses)
+    let last = put_lines(p, input, out);
+    let left = put_left(out, last.end, size % 8);
+    let done = last.progress;
+    put_sum(out, left, done.pulses)
+}
+
+// Whether a run may stand at so many records and pulses and take a piece of a size, and its text has room in so many bytes.
+fn goes_on(records: u32, pulses: u64, size: usize, space: usize) -> bool
+    ensures { λ b. ⌜ b ≡ takes records pulses size space ⌝ }
+{
+    if 8192 < records as usize + size / 8 {
+        return false;
+    }
+    if pulses > 4294967295 * records as u64 {
+        return false;
+    }
+    16 * size + 64 <= space
 }
 
 // How many of the bytes are read.
@@ -287,33 +348,38 @@ fn wide(b: u8) -> u16
     b as u16
 }
 
-// The lines of the first records of an input, at the start of out. The first record is handed the all-zero record.
-fn put_lines(input: &[u8], count: usize, out: &mut [u8]) -> Lines
-    requires { ⌜ (count ≤ 8192) × (8 * count ≤ length (now input)) ⌝ }
-    requires { ⌜ 128 * count ≤ length (now out) ⌝ }
-    ensures { λ r. ⌜ Puts (now (out .entry)) (now (out .exit)) 0 (r .end) (lines 1 noGroup (tabulate count (recordAt (now (input .entry))))) ⌝ }
-    ensures { λ r. ⌜ r .end ≤ 128 * count ⌝ }
-    ensures { λ r. ⌜ r .pulses ≡ allPulses noGroup (tabulate count (recordAt (now (input .entry)))) ⌝ }
+// The lines of the whole records of a piece, at the start of out.
+fn put_lines(p: Progress, input: &[u8], out: &mut [u8]) -> Piece
+    requires { ⌜ takes (p .records) (p .pulses) (length (now input)) (length (now out)) ≡ true ⌝ }
+    ensures { λ r. ⌜ Puts (now (out .entry)) (now (out .exit)) 0 (r .end) (linesFrom p (records (now (input .entry)))) ⌝ }
+    ensures { λ r. ⌜ r .end ≤ 16 * length (now (input .entry)) ⌝ }
+    ensures { λ r. ⌜ r .progress ≡ progressAfter p (records (now (input .entry))) ⌝ }
 {
-    let mut g = Group {
-        n: 0,
-        levels: [0; 12],
-        caps: [0; 12],
-        written: false,
-    };
-    let mut pulses: u64 = 0;
+    let count = input.len() / 8;
+    let handed = p.group;
+    let mut g = handed;
+    let mut pulses = p.pulses;
+    let mut position = p.records;
     let mut end = 0;
     let mut i = 0;
     while i < count {
         let r = record_at(input, i);
         let a = step(g, r);
         i += 1;
-        end = put_line(out, end, i as u32, r.kind, a);
+        position += 1;
+        end = put_line(out, end, position, r.kind, a);
         pulses += a.pulses as u64;
         let next = a.group;
         g = next;
     }
-    Lines { end, pulses }
+    Piece {
+        end,
+        progress: Progress {
+            records: position,
+            group: g,
+            pulses,
+        },
+    }
 }
 
 // A record's line.

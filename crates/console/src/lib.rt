@@ -5,19 +5,34 @@ ghost use mathlib.Core.Path.{_≡_};
 ghost use lib.ListN.{length};
 ghost use Rattle.calls.specs.Text.{room};
 
+// The most pieces that are read, of 4,096 bytes each: 65,536 bytes.
+const PIECES: u32 = 16;
+
 // Reads call records until 65,536 bytes, the end of the input or a read that fails, writes their text, and answers whether all of it was
-// written. The two buffers take 1.1 MB of stack.
+// written. The text is written piece by piece, so that the two buffers take some 70 KB of stack.
 pub fn pour(from: i32, to: i32) -> bool {
-    let mut input = io::large_buffer();
-    let size = io::read_full(from, &mut input);
+    let mut input = io::buffer();
     let mut text = text_buffer();
-    let end = calls::run(&input[..size], &mut text);
+    let mut p = calls::begin();
+    let mut size = io::read_full(from, &mut input);
+    let mut pieces = 1;
+    while size == 4096 && pieces < PIECES {
+        let done = calls::go_on(p, &input, &mut text);
+        if !io::write_all(to, &text[..done.end]) {
+            return false;
+        }
+        let next = done.progress;
+        p = next;
+        size = io::read_full(from, &mut input);
+        pieces += 1;
+    }
+    let end = calls::finish(p, &input[..size], &mut text);
     io::write_all(to, &text[..end])
 }
 
-// Room for what is printed for 65,536 bytes.
-fn text_buffer() -> [u8; 1048640]
-    ensures { λ r. ⌜ room 65536 ≡ length r ⌝ }
+// Room for what is printed for a piece.
+fn text_buffer() -> [u8; 65600]
+    ensures { λ r. ⌜ room 4096 ≡ length r ⌝ }
 {
-    [0; 1048640]
+    [0; 65600]
 }

@@ -3,23 +3,22 @@
 use borrow.Author.Needs.{needs}
 use Prim.Native.Nat.{_-_}
 use native.Mathlib.Omega.{arith}
-use Rattle.calls.proofs.Running.{Running, running-starts, running-steps, lines-put, pulses-added}
+use Rattle.calls.proofs.Running.{Running, running-starts, running-steps, lines-put, progress-made}
 use Rattle.calls.proofs.put_lines.Statement.{statement}
 use Rattle.calls.proofs.put_lines.Tie as tie
 
 abbrev Inv-loop : tie.InvT-loop
-Inv-loop input count out₀ g₀ pulses₀ end₀ i₀ out g pulses end i = Running input count out₀ out g pulses end i
+Inv-loop input out₀ count g₀ pulses₀ position₀ end₀ i₀ out g pulses position end i =
+    Running (record { records = position₀; group = g₀; pulses = pulses₀ }) input count out₀ out (record { records = position; group = g; pulses = pulses }) end i
 
 abbrev μ-loop : tie.MeasureT-loop
-μ-loop input count out₀ g₀ pulses₀ end₀ i₀ out g pulses end i = count - i
+μ-loop input out₀ count g₀ pulses₀ position₀ end₀ i₀ out g pulses position end i = count - i
 
 loop-holds : tie.Need-loop-holds Inv-loop μ-loop
-loop-holds c =
-    let entry = c .before .before in
-    running-starts (entry .pre .0 .0) (entry .pre .0 .1) (entry .pre .1)
+loop-holds c = running-starts (c .before .before .before .pre)
 
 record-at-requires : tie.Need-record-at-requires Inv-loop μ-loop
-record-at-requires c κs = omega (arith, c .before .loop .inv .whole, c .loop-test .taken)
+record-at-requires c κs = let run = c .before .loop .inv in omega (arith, run .whole, c .loop-test .taken)
 
 step-requires : tie.Need-step-requires Inv-loop μ-loop
 step-requires c κs = search needs
@@ -27,8 +26,11 @@ step-requires c κs = search needs
 add-i : tie.Need-add-i Inv-loop μ-loop
 add-i c = omega (arith, c .before .before .loop-test .taken, c .before .before .before .loop .inv .few)
 
-cast-put-line : tie.Need-cast-put-line Inv-loop μ-loop
-cast-put-line c = omega (arith, c .before .before .before .loop-test .taken, c .before .before .before .before .loop .inv .few)
+add-position : tie.Need-add-position Inv-loop μ-loop
+add-position c =
+    let t = c .before .before in
+    let run = t .before .loop .inv in
+    omega (arith, t .loop-test .taken, run .place, run .few)
 
 put-line-requires : tie.Need-put-line-requires Inv-loop μ-loop
 put-line-requires c κs =
@@ -43,7 +45,7 @@ add-pulses : tie.Need-add-pulses Inv-loop μ-loop
 add-pulses c =
     let t = c .before .before .before .before .before .before .before in
     let run = t .before .loop .inv in
-    omega (arith, t .loop-test .taken, run .few, run .small, c .struct-known .given)
+    omega (arith, t .loop-test .taken, run .place, run .few, run .small, c .struct-known .given)
 
 loop-less : tie.Need-loop-less Inv-loop μ-loop
 loop-less c = omega (arith, c .before .before .before .before .before .before .before .before .loop-test .taken)
@@ -69,7 +71,7 @@ same-length c = c .before .loop .inv .puts .kept
 returns : tie.Need-returns Inv-loop μ-loop
 returns c =
     let run = c .before .loop .inv in
-    (lines-put run (c .loop-test .left), (omega (arith, run .within, run .reached), pulses-added run (c .loop-test .left)))
+    (lines-put run (c .loop-test .left), (omega (arith, run .within, run .reached, run .whole), progress-made run (c .loop-test .left)))
 
 pub put-lines-spec : {M : Type 1} → statement M
 put-lines-spec =
@@ -81,7 +83,7 @@ put-lines-spec =
     record-at-requires
     step-requires
     add-i
-    cast-put-line
+    add-position
     put-line-requires
     cast-pulses
     add-pulses

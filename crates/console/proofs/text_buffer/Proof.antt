@@ -7,7 +7,7 @@ use Rattle.console.proofs.text_buffer.Statement.{statement}
 use Rattle.console.proofs.text_buffer.Tie as tie
 
 returns : tie.Need-returns
-returns c = sym (length-replicate {A = ℕ} 1048640 0)
+returns c = sym (length-replicate {A = ℕ} 65600 0)
 
 pub text-buffer-spec : {M : Type 1} → statement M
 text-buffer-spec = tie.close (tie.spec returns)

@@ -1,0 +1,89 @@
+-- A run in pieces prints what a run of the whole input prints, and none of its pieces is refused.
+-- Assumes nothing.
+use mathlib.Core.Path.{_≡_, refl, sym, ap, _∙_}
+use mathlib.Core.Logic.{inl}
+use mathlib.Core.Bool.{true}
+use Prim.Native.Nat.{ℕ, _+_, _*_, _/_, _%_, _≤_}
+use native.Mathlib.Omega.{arith}
+use mathlib.Core.List.{List, [], _∷_, _++_, append-assoc}
+use lib.ListN.{length, length-append}
+use borrow.Author.Tests.{le-leb}
+use Rattle.order.proofs.Tabulate.{length-tabulate}
+use Rattle.calls.specs.declared.CallRecord.{CallRecord}
+use Rattle.calls.specs.declared.Progress.{Progress}
+use Rattle.calls.specs.Records.{recordAt, records}
+use Rattle.calls.specs.Text.{leftLine, sumLine, textOf, room}
+use Rattle.calls.specs.Pieces.{beginning, progressAfter, linesFrom, textFrom, goesOn, linesPrinted, pieceOf, endPrinted, Lent, Whole, joined, allPrinted}
+use Rattle.calls.proofs.Course.{Begun, stream-begun}
+use Rattle.calls.proofs.Pulses.{pulses-most}
+use Rattle.calls.proofs.Follow.{lines-follow, progress-follows}
+use Rattle.calls.proofs.Cut.{records-append}
+use Rattle.calls.proofs.Printed.{text-begun}
+
+-- a text may be cut at a whole record
+pub text-cut : (p : Progress) (xs ys : List ℕ) → length xs % 8 ≡ 0
+    → textFrom p (xs ++ ys) ≡ linesFrom p (records xs) ++ textFrom (progressAfter p (records xs)) ys
+unfolding textFrom
+text-cut p xs ys e =
+    let next = progressAfter p (records xs) in
+    let left = leftLine (length ys % 8) in
+    let sum = sumLine (progressAfter next (records ys) .pulses) in
+    let bytes : length (xs ++ ys) % 8 ≡ length ys % 8 = omega (arith, e, length-append xs ys) in
+    ap (λ (rs : List CallRecord). linesFrom p rs ++ leftLine (length (xs ++ ys) % 8) ++ sumLine (progressAfter p rs .pulses)) (records-append xs ys e)
+    ∙ ap (λ (k : ℕ). linesFrom p (records xs ++ records ys) ++ leftLine k ++ sumLine (progressAfter p (records xs ++ records ys) .pulses)) bytes
+    ∙ ap (λ (x : Progress). linesFrom p (records xs ++ records ys) ++ left ++ sumLine (x .pulses)) (progress-follows p (records xs) (records ys))
+    ∙ ap (λ (t : List ℕ). t ++ left ++ sum) (lines-follow p (records xs) (records ys))
+    ∙ ap (λ (t : List ℕ). t ++ sum) (append-assoc (linesFrom p (records xs)) (linesFrom next (records ys)) left)
+    ∙ append-assoc (linesFrom p (records xs)) (linesFrom next (records ys) ++ left) sum
+
+-- ---- where a run that begins with the all-zero record can stand
+
+pub record Stands (p : Progress) : Type 0 where
+  pub begun : Begun (p .group)
+  pub small : p .pulses ≤ 49140 * p .records
+
+pub beginning-stands : Stands beginning
+beginning-stands = record { begun = inl refl; small = omega arith }
+
+pub after-stands : (p : Progress) (rs : List CallRecord) → Stands p → Stands (progressAfter p rs)
+after-stands p rs s =
+    record {
+      begun = stream-begun (p .group) rs (s .begun);
+      small = omega (arith, s .small, pulses-most (p .group) rs (s .begun));
+    }
+
+-- no piece of its first 65,536 bytes is refused for where it stands
+pub stands-goes-on : (p : Progress) (bs out : List ℕ) → Stands p → 8 * p .records + length bs ≤ 65536 → room (length bs) ≤ length out
+    → goesOn p bs out ≡ true
+stands-goes-on p bs out s few r =
+    let records : p .records + length bs / 8 ≤ 8192 = omega arith in
+    let pulses : p .pulses ≤ 4294967295 * p .records = omega (arith, s .small) in
+    rw (le-leb (p .records + length bs / 8) 8192 records, le-leb (p .pulses) (4294967295 * p .records) pulses, le-leb (room (length bs)) (length out) r) refl
+
+-- ---- a run in pieces
+
+records-length : (bs : List ℕ) → length (records bs) ≡ length bs / 8
+unfolding records
+records-length bs = length-tabulate (length bs / 8) (recordAt bs)
+
+pieces-from : (p : Progress) (ls : List Lent) (last : Lent) → Stands p → Whole ls → room (length (last .bytes)) ≤ length (last .out)
+    → 8 * p .records + length (joined ls (last .bytes)) ≤ 65536
+    → allPrinted p ls last ≡ textFrom p (joined ls (last .bytes))
+unfolding endPrinted linesPrinted pieceOf
+pieces-from p [] last s w r few = rw (stands-goes-on p (last .bytes) (last .out) s few r) refl
+pieces-from p (l ∷ ls) last s w r few =
+    let rs = records (l .bytes) in
+    let others = joined ls (last .bytes) in
+    let size = length-append (l .bytes) others in
+    let part : 8 * p .records + length (l .bytes) ≤ 65536 = omega (arith, few, size) in
+    let more : 8 * (p .records + length rs) + length others ≤ 65536 = omega (arith, few, size, records-length (l .bytes)) in
+    rw (stands-goes-on p (l .bytes) (l .out) s part (w .1))
+    (ap (λ (t : List ℕ). linesFrom p rs ++ t) (pieces-from (progressAfter p rs) ls last (after-stands p rs s) (w .2) r more)
+    ∙ sym (text-cut p (l .bytes) others (w .0)))
+
+-- an input of at most 65,536 bytes, cut at whole records, each piece with a buffer that has room for it: its text is printed
+pub pieces-print : (ls : List Lent) (last : Lent) → Whole ls → room (length (last .bytes)) ≤ length (last .out)
+    → length (joined ls (last .bytes)) ≤ 65536
+    → allPrinted beginning ls last ≡ textOf (joined ls (last .bytes))
+pieces-print ls last w r few =
+    pieces-from beginning ls last beginning-stands w r (omega (arith, few)) ∙ text-begun (joined ls (last .bytes))

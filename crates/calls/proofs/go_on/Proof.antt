@@ -1,0 +1,29 @@
+-- `calls::go_on` meets its contract.
+-- Assumes nothing.
+use borrow.Author.Needs.{needs}
+use mathlib.Core.Path.{sym, _∙_}
+use borrow.Author.Tests.{not-true, not-false}
+use Rattle.calls.proofs.Printed.{piece-refused, piece-put}
+use Rattle.calls.proofs.go_on.Statement.{statement}
+use Rattle.calls.proofs.go_on.Tie as tie
+
+goes-on-requires : tie.Need-goes-on-requires
+goes-on-requires c κs = search needs
+
+returns : tie.Need-returns
+returns c = piece-refused _ _ _ (sym (c .before .goes-on .ensures) ∙ not-true _ (c .if1 .taken))
+
+put-lines-requires : tie.Need-put-lines-requires
+put-lines-requires c κs = sym (c .before .before .goes-on .ensures) ∙ not-false _ (c .before .if1 .left)
+
+same-length : tie.Need-same-length
+same-length c = c .before .before .put-lines .ensures .0 .kept
+
+returns-2 : tie.Need-returns-2
+returns-2 c =
+    let p = c .before .before in
+    let q = p .before in
+    piece-put _ _ _ (put-lines-requires q (q .before .before .before .before .before .κs)) (p .put-lines .result) (p .put-lines .ensures .0) (p .put-lines .ensures .1 .1)
+
+pub go-on-spec : {M : Type 1} → statement M
+go-on-spec = tie.close (tie.spec goes-on-requires returns put-lines-requires same-length returns-2)
