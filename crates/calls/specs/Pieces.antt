@@ -1,9 +1,9 @@
 -- Document 01, "Calls outside the list": a run made in pieces of its input.
 --
 --   groupAfter g rs        the group that records leave, the first of which is handed the group g
---   beginning                  where a run stands before its first record: none answered, the all-zero record, no pulses
+--   beginning              where a run stands before its first record: none answered, the all-zero record, no pulses
 --   progressAfter p rs     where a run that stood at p stands after some records
---   linesFrom p rs         the lines of records that follow where a run stands at p
+--   linesFrom p rs         the lines of some records, in a run that stood at p
 --   textFrom p bs          what is printed for the last piece: its lines, its leftover bytes, and the pulses of all records
 --   takes k q size space   a run of 65,536 bytes may have had k records and q pulses before a piece of this size, and a buffer of this length
 --                          has room for the piece: 8,192 records are the most, and a record has at most 4,294,967,295 pulses

@@ -1,6 +1,8 @@
-// The call records of the program `rmcalls` (document 01, "Calls outside the list"): `step`, the answer to one record, with one equation, and
-// `run`, a whole input turned into the text that the program prints, with an equation for its answer and one for the lent buffer. Proved
-// besides: the printed example (proofs/Example), and that the records from a group up to the next open are a list of calls of demand 3 (proofs/Course).
+// The call records of the program `rmcalls` (document 01, "Calls outside the list"): `step`, the answer to one record, with one equation; `run`,
+// a whole input turned into the text that the program prints; `begin`, `go_on` and `finish`, the same in pieces of the input. Each of these has an
+// equation for its answer and, where a buffer is lent, one for the buffer. Proved besides: the printed example (proofs/Example), that a run in
+// pieces prints the text of the whole (proofs/Pieces), and that the records from a group up to the next open are a list of calls of demand 3
+// (proofs/Course).
 use engine::Applied;
 use engine::Kind;
 use engine::ReadAnswer;
@@ -38,6 +40,12 @@ const LINE_FEED: u8 = 10;
 
 // The most bytes of an input that are read.
 const MOST: usize = 65536;
+
+// The most records that they are.
+const MOST_RECORDS: usize = 8192;
+
+// The most pulses that a record's answer can hold.
+const MOST_PULSES: u64 = 4294967295;
 
 // A call record: its two zero bytes are one field.
 pub struct CallRecord {
@@ -120,7 +128,10 @@ pub fn go_on(p: Progress, input: &[u8], out: &mut [u8]) -> Piece
     ensures { λ r. ⌜ now (out .exit) ≡ linesPrinted p (now (input .entry)) (now (out .entry)) ++ drop (r .end) (now (out .entry)) ⌝ }
 {
     if !goes_on(p.records, p.pulses, input.len(), out.len()) {
-        return Piece { end: 0, progress: p };
+        return Piece {
+            end: 0,
+            progress: p,
+        };
     }
     put_lines(p, input, out)
 }
@@ -145,10 +156,10 @@ pub fn finish(p: Progress, input: &[u8], out: &mut [u8]) -> usize
 fn goes_on(records: u32, pulses: u64, size: usize, space: usize) -> bool
     ensures { λ b. ⌜ b ≡ takes records pulses size space ⌝ }
 {
-    if 8192 < records as usize + size / 8 {
+    if MOST_RECORDS < records as usize + size / 8 {
         return false;
     }
-    if pulses > 4294967295 * records as u64 {
+    if pulses > MOST_PULSES * records as u64 {
         return false;
     }
     16 * size + 64 <= space
