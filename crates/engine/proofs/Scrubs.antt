@@ -3,7 +3,7 @@
 --   scrub-refused   the refusal of a read is that of a scrub
 --   scrub-written   otherwise the answer is that of the write of the codeword found, with the symbol and the verdict of the read
 --   scrub-stored    which is the store of the symbol read
---   scrub-lost, scrub-found   the same by the answer of `corrected` to the order sensed
+--   scrub-lost, scrub-found   the same by the answers of `corrected` to the order sensed and of the read
 --   scrub-reads   after an accepted scrub a read answers the symbol that was read before it, clean
 --   scrub-tells   an accepted scrub tells the symbol and the verdict of a read before it
 --   scrub-kept    a refused scrub, worn or other, gives the group back, with symbol 0, no verdict and no pulses
@@ -24,7 +24,6 @@ use Rattle.order.specs.Order.{orderRecord}
 use Rattle.order.proofs.Refusals.{later-decide, all-held, check-held, refused-first, told-refused}
 use Rattle.code.specs.declared.Verdict.{Verdict}
 use Rattle.code.specs.declared.Verdict.the-variants.{Clean}
-use Rattle.code.specs.declared.DecodeAnswer.the-variants as decode
 use Rattle.code.specs.declared.CorrectedAnswer.{CorrectedAnswer}
 use Rattle.code.specs.Words.{K}
 use Rattle.code.specs.Decoding.{isCodeword, symbolOf}
@@ -39,8 +38,10 @@ use Rattle.group.specs.Calls.{Program, pushed, unpushed, writeOf}
 use Rattle.group.proofs.Checks.{checked-size}
 use Rattle.group.proofs.Sensed.{sensed-order}
 use Rattle.group.proofs.Groups.{IsGroup}
-use Rattle.engine.specs.Calls.{sensedOrder, placeRead, readChecks, readingOf, readOf, storeOf}
-use Rattle.engine.specs.Machine.{Step, quiet, programmedStep, wordFound, scrubChecks, scrubOf}
+use Rattle.engine.specs.declared.ReadAnswer.{ReadAnswer}
+use Rattle.engine.specs.declared.ReadAnswer.the-variants as read
+use Rattle.engine.specs.Calls.{sensedOrder, placeRead, readChecks, readingOf, toldRead, readOf, storeOf}
+use Rattle.engine.specs.Machine.{Step, quiet, programmedStep, wordFound, scrubChecks, scrubOf, afterRead}
 use Rattle.engine.proofs.Answers.{read-number, read-done, read-decoded, sensed-recorded, write-listed, store-written}
 use Rattle.engine.proofs.Holds.{store-reads}
 
@@ -105,33 +106,34 @@ module _ (g : Group) where
     pub scrub-stored : scrubbed g (storeOf g (readingOf g .symbol)) (readingOf g .symbol) (readingOf g .verdict) ≡ scrubOf g
     scrub-stored = rw (store-found g d) scrub-written
 
--- by the order sensed, put right
+-- by the order sensed, put right, and the answer of the read
 module _ (g : Group) (d : numberOf (groupChecks g) ≡ 0) (w : g .written ≡ true) (f : CorrectedAnswer) (e : toldCorrected f ≡ correctedOf (orderRecord (sensedOrder g))) where
   read-corrected : toldDecode (f .answer) ≡ readOf g
   read-corrected = ap readingTold e ∙ decode-part (orderRecord (sensedOrder g)) ∙ read-decoded g d w
 
-  pub scrub-lost : {r : Refusal} → f .answer ≡ decode.Refused r → record { number = refusalNumber r; value = quiet g } ≡ scrubOf g
-  scrub-lost {r} p = scrub-refused g r (ap (λ (t : Told Reading). t .number) (rw p at (sym read-corrected)))
+  module _ (a : ReadAnswer) (q : toldRead a ≡ toldDecode (f .answer)) where
+    pub scrub-lost : {r : Refusal} → a ≡ read.Refused r → afterRead g (toldRead a) ≡ scrubOf g
+    scrub-lost {r} p = rw p (scrub-refused g r (ap (λ (t : Told Reading). t .number) (rw p at (sym (q ∙ read-corrected)))))
 
-  module _ {s : ℕ} {v : Verdict} (p : f .answer ≡ decode.Decoded s v) where
-    answered : readOf g ≡ record { number = 0; value = record { symbol = s; verdict = some v } }
-    answered = rw p at (sym read-corrected)
+    module _ {s : ℕ} {v : Verdict} (p : a ≡ read.Read s v) where
+      answered : readOf g ≡ record { number = 0; value = record { symbol = s; verdict = some v } }
+      answered = rw p at (sym (q ∙ read-corrected))
 
-    accepted-read : numberOf (readChecks g) ≡ 0
-    accepted-read = sym (read-number g) ∙ ap (λ (t : Told Reading). t .number) answered
+      accepted-read : numberOf (readChecks g) ≡ 0
+      accepted-read = sym (read-number g) ∙ ap (λ (t : Told Reading). t .number) answered
 
-    reading : readingOf g ≡ record { symbol = s; verdict = some v }
-    reading = ap (λ (t : Told Reading). t .value) (sym (read-done g accepted-read) ∙ answered)
+      reading : readingOf g ≡ record { symbol = s; verdict = some v }
+      reading = ap (λ (t : Told Reading). t .value) (sym (read-done g accepted-read) ∙ answered)
 
-    word : f .word ≡ orderRecord (wordFound g)
-    word =
-        let o = orderRecord (sensedOrder g) in
-        let number : correctedOf o .number ≡ 0 = ap (λ (t : Told Correction). t .number) (sym e) ∙ ap (λ (t : Told Reading). t .number) (read-corrected ∙ answered) in
-        let (len, list) = sensed-recorded g d in
-        ap (λ (t : Told Correction). t .value .word) e ∙ corrected-word o number ∙ rw (list, len)
+      word : f .word ≡ orderRecord (wordFound g)
+      word =
+          let o = orderRecord (sensedOrder g) in
+          let number : correctedOf o .number ≡ 0 = ap (λ (t : Told Correction). t .number) (sym e) ∙ ap (λ (t : Told Reading). t .number) (read-corrected ∙ answered) in
+          let (len, list) = sensed-recorded g d in
+          ap (λ (t : Told Correction). t .value .word) e ∙ corrected-word o number ∙ rw (list, len)
 
-    pub scrub-found : {t : Told Program} → t ≡ writeOf g (f .word) → scrubbed g t s (some v) ≡ scrubOf g
-    scrub-found q = rw (q, word) (rw reading at (scrub-written g accepted-read))
+      pub scrub-found : {t : Told Program} → t ≡ writeOf g (f .word) → scrubbed g t s (some v) ≡ scrubOf g
+      scrub-found o = rw (o, word) (rw reading at (scrub-written g accepted-read))
 
 -- ---- what it leaves
 

@@ -16,6 +16,7 @@ ghost use mathlib.Core.Path.{_≡_};
 ghost use mathlib.Core.Bool.{false};
 ghost use mathlib.Core.Option.{some};
 ghost use Rattle.order.specs.Refusals.{outcomeNumber, ifDone};
+ghost use Rattle.code.specs.Calls.{toldDecode};
 ghost use Rattle.group.specs.Calls.{toldChanged, toldWritten};
 ghost use Rattle.engine.specs.Calls.{toldRead, readOf, storeOf, toldAlike, alikeOf};
 ghost use Rattle.engine.specs.Machine.{toldApplied, quiet, programmedStep, afterProgram, afterChange, afterRead, scrubOf, applyOf};
@@ -76,8 +77,14 @@ pub fn read(g: Group) -> ReadAnswer
         return ReadAnswer::Refused(Refusal::Blank);
     }
     let order = sensed.order;
-    let decoded = code::decode(order);
-    match decoded {
+    as_read(code::decode(order))
+}
+
+// The answer of a read, by that of the decoder.
+fn as_read(answer: DecodeAnswer) -> ReadAnswer
+    ensures { λ r. ⌜ toldRead r ≡ toldDecode answer ⌝ }
+{
+    match answer {
         DecodeAnswer::Refused(refusal) => ReadAnswer::Refused(refusal),
         DecodeAnswer::Decoded { symbol, verdict } => ReadAnswer::Read { symbol, verdict },
     }
@@ -155,14 +162,13 @@ pub fn scrub(g: Group) -> Applied
     }
     let order = sensed.order;
     let found = code::corrected(order);
-    let answer = found.answer;
-    match answer {
-        DecodeAnswer::Refused(refusal) => unchanged(Outcome::Refused(refusal), g),
-        DecodeAnswer::Decoded { symbol, verdict } => {
-            let word = found.word;
-            rewritten(g, group::write(g, word), symbol, verdict)
-        }
-    }
+    let decoded = found.answer;
+    let answer = as_read(decoded);
+    let ReadAnswer::Read { symbol, verdict } = answer else {
+        return from_read(g, answer);
+    };
+    let word = found.word;
+    rewritten(g, group::write(g, word), symbol, verdict)
 }
 
 // The answer of a scrub that found a codeword, by that of its write.

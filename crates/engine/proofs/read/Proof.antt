@@ -37,11 +37,8 @@ returns-2 c = read-blank _ (passed (c .before .before)) (not-true _ (c .if1 .tak
 decode-requires : tie.Need-decode-requires
 decode-requires c κs = search needs
 
-enum-known-decoded : tie.Need-enum-known-decoded
-enum-known-decoded c = search needs
-
-enum-known-decoded-2 : tie.Need-enum-known-decoded-2
-enum-known-decoded-2 c = search needs
+as-read-requires : tie.Need-as-read-requires
+as-read-requires c κs = search needs
 
 -- the mark is set, and the sensed order is decoded
 decoded : (c : tie.After-decode) → toldDecode (c .decode .result) ≡ readOf (c .before .before .before .before .before .before .before .args .g)
@@ -52,22 +49,7 @@ decoded c =
     c .decode .ensures ∙ ap decodeOf (sense-record _ (a .result) (a .ensures) (passed d)) ∙ read-decoded _ (passed d) (not-false _ (e .if1 .left))
 
 returns-3 : tie.Need-returns-3
-returns-3 c = sym (ap toldDecode (c .before .decoded .given .1)) ∙ decoded (c .before .before .before)
-
-returns-4 : tie.Need-returns-4
-returns-4 c = sym (ap toldDecode (c .before .decoded2 .given .1)) ∙ decoded (c .before .before .before)
+returns-3 c = c .as-read .ensures ∙ decoded (c .before)
 
 pub read-spec : {M : Type 1} → statement M
-read-spec =
-    tie.close
-    (tie.spec
-    sense-requires
-    enum-known-outcome
-    returns
-    enum-told
-    returns-2
-    decode-requires
-    enum-known-decoded
-    enum-known-decoded-2
-    returns-3
-    returns-4)
+read-spec = tie.close (tie.spec sense-requires enum-known-outcome returns enum-told returns-2 decode-requires as-read-requires returns-3)

@@ -61,14 +61,25 @@ found c =
     let a = e .before .before .sense in
     c .corrected .ensures ∙ ap correctedOf (sense-record _ (a .result) (a .ensures) (passed e))
 
+as-read-requires : tie.Need-as-read-requires
+as-read-requires c κs = search needs
+
 enum-known-answer : tie.Need-enum-known-answer
 enum-known-answer c = search needs
 
-unchanged-requires-3 : tie.Need-unchanged-requires-3
-unchanged-requires-3 c κs = search needs
+enum-told-3 : tie.Need-enum-told-3
+enum-told-3 c = search needs
 
-enum-known-answer-2 : tie.Need-enum-known-answer-2
-enum-known-answer-2 c = search needs
+from-read-requires : tie.Need-from-read-requires
+from-read-requires c κs = search needs
+
+returns-3 : tie.Need-returns-3
+returns-3 c =
+    let a = c .before .before .before in
+    let f = a .before in
+    let e = f .before .before in
+    c .from-read .ensures
+    ∙ scrub-lost _ (passed (e .before)) (not-false _ (e .if1 .left)) (f .corrected .result) (found f) (a .as-read .result) (a .as-read .ensures) (c .before .enum-told3 .given .1)
 
 write-requires : tie.Need-write-requires
 write-requires c κs = search needs
@@ -76,20 +87,14 @@ write-requires c κs = search needs
 rewritten-requires : tie.Need-rewritten-requires
 rewritten-requires c κs = search needs
 
-returns-3 : tie.Need-returns-3
-returns-3 c =
-    let b = c .before .before in
-    let f = b .before .before in
-    let e = f .before .before in
-    c .unchanged3 .ensures ∙ scrub-lost _ (passed (e .before)) (not-false _ (e .if1 .left)) (f .corrected .result) (found f) (b .answer .given .1)
-
 returns-4 : tie.Need-returns-4
 returns-4 c =
     let b = c .before .before .before .before in
-    let f = b .before .before in
+    let a = b .before .before in
+    let f = a .before in
     let e = f .before .before in
     c .rewritten .ensures
-    ∙ scrub-found _ (passed (e .before)) (not-false _ (e .if1 .left)) (f .corrected .result) (found f) (b .answer2 .given .1) (c .before .write .ensures)
+    ∙ scrub-found _ (passed (e .before)) (not-false _ (e .if1 .left)) (f .corrected .result) (found f) (a .as-read .result) (a .as-read .ensures) (b .answer .given .1) (c .before .write .ensures)
 
 pub scrub-spec : {M : Type 1} → statement M
 scrub-spec =
@@ -103,10 +108,11 @@ scrub-spec =
     unchanged-requires-2
     returns-2
     corrected-requires
+    as-read-requires
     enum-known-answer
-    unchanged-requires-3
-    enum-known-answer-2
+    enum-told-3
+    from-read-requires
+    returns-3
     write-requires
     rewritten-requires
-    returns-3
     returns-4)
