@@ -381,7 +381,7 @@ fn put_lines(p: Progress, input: &[u8], out: &mut [u8]) -> Piece
         end = put_line(out, end, position, r.kind, a);
         pulses += a.pulses as u64;
         let next = a.group;
-        g = next;
+        g = by_fields(next);
     }
     Piece {
         end,
@@ -390,6 +390,20 @@ fn put_lines(p: Progress, input: &[u8], out: &mut [u8]) -> Piece
             group: g,
             pulses,
         },
+    }
+}
+
+// The same group, made of its fields, so that the bytes of the record that no field has are not copied from call to call.
+fn by_fields(g: Group) -> Group
+    ensures { λ r. ⌜ r ≡ g ⌝ }
+{
+    let levels = g.levels;
+    let caps = g.caps;
+    Group {
+        n: g.n,
+        levels,
+        caps,
+        written: g.written,
     }
 }
 

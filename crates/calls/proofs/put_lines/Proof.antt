@@ -47,23 +47,27 @@ add-pulses c =
     let run = t .before .loop .inv in
     omega (arith, t .loop-test .taken, run .place, run .few, run .small, c .struct-known .given)
 
+by-fields-requires : tie.Need-by-fields-requires Inv-loop μ-loop
+by-fields-requires c κs = search needs
+
 loop-less : tie.Need-loop-less Inv-loop μ-loop
-loop-less c = omega (arith, c .before .before .before .before .before .before .before .before .loop-test .taken)
+loop-less c = omega (arith, c .before .before .before .before .before .before .before .before .before .loop-test .taken)
 
 loop-again : tie.Need-loop-again Inv-loop μ-loop
 loop-again c =
-    let p = c .before .before .before .before in
+    let p = c .before .before .before .before .before in
     let s = p .before .before in
     let t = s .before .before in
-    running-steps
+    rw (c .by-fields .ensures)
+    (running-steps
     (s .step .result)
     (t .before .loop .inv)
     (t .loop-test .taken)
     (s .before .record-at .ensures)
     (s .step .ensures)
-    (omega (arith, c .before .struct-known .given))
+    (omega (arith, c .before .before .struct-known .given))
     (p .put-line .ensures .0)
-    (p .put-line .ensures .1)
+    (p .put-line .ensures .1))
 
 same-length : tie.Need-same-length Inv-loop μ-loop
 same-length c = c .before .loop .inv .puts .kept
@@ -87,6 +91,7 @@ put-lines-spec =
     put-line-requires
     cast-pulses
     add-pulses
+    by-fields-requires
     loop-less
     loop-again
     same-length
