@@ -48,8 +48,8 @@ module _ (n : ℕ) (pos : 0 < n) where
   K-entry = sym (count (modulus n) (omega arith) (n - 1) 1 0 (omega arith))
 
   -- and so it is the first count of a block
-  pub first-count : {counts : List ℕ} → n ≤ 12 → 3 ≤ n → Block n counts → getD counts 0 0 ≡ K n
-  first-count h l b =
+  pub first-count : {counts : List ℕ} → 3 ≤ n → n ≤ 12 → Block n counts → getD counts 0 0 ≡ K n
+  first-count l h b =
       let start : (1 - 1) * modulus n + 0 ≡ 0 = omega arith in
       rw start at (b .at 1 0 (record { low = l; high = h; first = omega arith; last = omega arith; residue = omega arith })) ∙ K-entry
 

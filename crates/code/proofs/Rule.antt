@@ -1,7 +1,7 @@
 -- The rule of the table of counts, carried from the one test of the whole table to each entry.
 -- Assumes nothing.
 use mathlib.Core.Path.{_≡_, ap, _∙_, fun-ext}
-use mathlib.Core.Bool.{_&&_}
+use mathlib.Core.Bool.{true, _&&_}
 use mathlib.Core.List.{List, []}
 use Prim.Native.Nat.{ℕ, zero, suc, _+_, _-_, _*_, _^_, _≤_, _<_}
 use native.Mathlib.Nat.{suc-mul, mul-le-mul-right, le-refl, mod-lt}
@@ -9,6 +9,8 @@ use native.Mathlib.Omega.{arith}
 use lib.Dec.{T, eqb, ltb, leb, eqb→eq, leb→le, ltb→lt}
 use lib.ListN.{length, getD}
 use borrow.Author.Tests.{lt-ltb, le-ltb}
+use Rattle.order.specs.Refusals.{isSize}
+use Rattle.order.proofs.Refusals.{size-true}
 use Rattle.code.specs.declared.table.Table.{Table}
 use Rattle.code.specs.Words.{modulus}
 use Rattle.code.specs.Tails.{sumBelow, owed, nothing, tailsFrom, tails, Entry, Block}
@@ -49,29 +51,30 @@ module _ (t : Table) (right : T (tableRight t)) (k : ℕ) (h : k < 10) where
   unfolding tableRight
   whole = all-at (λ k. eqb (length (getD (blocks t) k [])) ((3 + k) * modulus (3 + k)) && blockRight (getD (blocks t) k []) (3 + k)) 10 right k h
 
-  size : length block ≡ (3 + k) * modulus (3 + k)
-  size = eqb→eq _ _ (and-left (eqb (length block) ((3 + k) * modulus (3 + k))) (blockRight block (3 + k)) whole)
-
   -- each entry of each block is the count that it stands for
-  pub rule : (n : ℕ) → n ≡ 3 + k → Block n block
+  pub rule : Block (3 + k) block
   unfolding tails
-  rule n s =
-      rw s
-      (record {
-        size = size;
-        at = λ i r e.
-            let start : suc (i - 1) ≡ i = omega arith in
-            rw start at (row block (3 + k) (omega arith) (and-right (eqb (length block) ((3 + k) * modulus (3 + k))) (blockRight block (3 + k)) whole) (3 + k - i) (i - 1) r (omega arith) (e .residue));
-      })
+  rule = record {
+    size = eqb→eq _ _ (and-left (eqb (length block) ((3 + k) * modulus (3 + k))) (blockRight block (3 + k)) whole);
+    at = λ i r e.
+        let start : suc (i - 1) ≡ i = omega arith in
+        rw start at (row block (3 + k) (omega arith) (and-right (eqb (length block) ((3 + k) * modulus (3 + k))) (blockRight block (3 + k)) whole) (3 + k - i) (i - 1) r (omega arith) (e .residue));
+  }
 
--- a number that is none of those from low to low + k - 1, as the last arm of a match knows it
-abbrev pub Skips : ℕ → ℕ → ℕ → Type 0
-Skips low zero n = Unit
-Skips low (suc k) n = Skips low k n × (n ≡ low + k → ⊥)
+-- a number is none of the k from 3 on, as a match's last arm knows it
+abbrev pub Skips : ℕ → ℕ → Type 0
+Skips zero n = Unit
+Skips (suc k) n = Skips k n × (n ≡ 3 + k → ⊥)
 
-pub past : (low k n : ℕ) → Skips low k n → low ≤ n → low + k ≤ n
-past low zero n s h = omega arith
-past low (suc k) n s h = omega (arith, past low k n (s .0) h, s .1)
+past : (k n : ℕ) → Skips k n → 3 ≤ n → 3 + k ≤ n
+past zero n s h = omega arith
+past (suc k) n s h = omega (arith, past k n (s .0) h, s .1)
+
+-- the last arm's size
+pub last-size : (n : ℕ) → isSize n ≡ true → Skips 9 n → n ≡ 12
+last-size n e s =
+    let (low, high) = size-true n e in
+    omega (arith, past 9 n s low)
 
 -- how many choices of k coordinates from coordinate i on there are
 ways : ℕ → ℕ → ℕ

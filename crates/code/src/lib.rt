@@ -261,58 +261,58 @@ fn number(x: Coordinates) -> u32
     requires { ⌜ (isSize (x .len + 1) ≡ true) × (isWord (x .len + 1) (take (x .len) (x .values)) ≡ true) ⌝ }
     ensures { λ s. ⌜ s ≡ wordNumber (x .len + 1) (take (x .len) (x .values)) ⌝ }
 {
-    let m = x.len;
-    match m {
-        2 => {
-            let counts = tail_counts().of_3;
-            number_by(&counts, x)
-        }
+    let n = x.len + 1;
+    match n {
         3 => {
-            let counts = tail_counts().of_4;
-            number_by(&counts, x)
+            let counts = tail_counts().of_3;
+            number_by(&counts, 3, x)
         }
         4 => {
-            let counts = tail_counts().of_5;
-            number_by(&counts, x)
+            let counts = tail_counts().of_4;
+            number_by(&counts, 4, x)
         }
         5 => {
-            let counts = tail_counts().of_6;
-            number_by(&counts, x)
+            let counts = tail_counts().of_5;
+            number_by(&counts, 5, x)
         }
         6 => {
-            let counts = tail_counts().of_7;
-            number_by(&counts, x)
+            let counts = tail_counts().of_6;
+            number_by(&counts, 6, x)
         }
         7 => {
-            let counts = tail_counts().of_8;
-            number_by(&counts, x)
+            let counts = tail_counts().of_7;
+            number_by(&counts, 7, x)
         }
         8 => {
-            let counts = tail_counts().of_9;
-            number_by(&counts, x)
+            let counts = tail_counts().of_8;
+            number_by(&counts, 8, x)
         }
         9 => {
-            let counts = tail_counts().of_10;
-            number_by(&counts, x)
+            let counts = tail_counts().of_9;
+            number_by(&counts, 9, x)
         }
         10 => {
+            let counts = tail_counts().of_10;
+            number_by(&counts, 10, x)
+        }
+        11 => {
             let counts = tail_counts().of_11;
-            number_by(&counts, x)
+            number_by(&counts, 11, x)
         }
         _ => {
             let counts = tail_counts().of_12;
-            number_by(&counts, x)
+            number_by(&counts, 12, x)
         }
     }
 }
 
 // The number of the codeword with these coordinates, by the counts of its size: the words before it, coordinate by coordinate.
-fn number_by(counts: &[u32], x: Coordinates) -> u32
-    requires { ⌜ Block (x .len + 1) (now counts) ⌝ }
+fn number_by(counts: &[u32], n: usize, x: Coordinates) -> u32
+    requires { ⌜ Block n (now counts) ⌝ }
+    requires { ⌜ n ≡ x .len + 1 ⌝ }
     requires { ⌜ (isSize (x .len + 1) ≡ true) × (isWord (x .len + 1) (take (x .len) (x .values)) ≡ true) ⌝ }
     ensures { λ s. ⌜ s ≡ wordNumber (x .len + 1) (take (x .len) (x .values)) ⌝ }
 {
-    let n = x.len + 1;
     let mut sum: u32 = 0;
     let mut r: usize = 0;
     let mut i: usize = 1;

@@ -1,26 +1,24 @@
 -- `code::number_by` meets its contract, by the invariant of Summing.
 -- Assumes nothing.
-use mathlib.Core.Path.{refl}
-use Prim.Native.Nat.{_+_, _-_}
+use mathlib.Core.Path.{_≡_}
+use Prim.Native.Nat.{_-_}
 use native.Mathlib.Omega.{arith}
 use borrow.Author.Needs.{needs}
-use Rattle.order.proofs.Refusals.{size-true}
-use Rattle.code.proofs.Summing.{Summing, start, step, end, choosing, sum-fits}
+use Rattle.code.specs.Words.{modulus}
+use Rattle.code.specs.Tails.{owed, before}
+use Rattle.code.proofs.Scanning.{at}
+use Rattle.code.proofs.Summing.{Summing, cells, start, step, end, choosing, sum-fits}
 use Rattle.code.proofs.number_by.Statement.{statement}
 use Rattle.code.proofs.number_by.Tie as tie
 
 abbrev Inv-loop : tie.InvT-loop
-Inv-loop counts x n sum₀ r₀ i₀ sum r i = Summing x sum r i
+Inv-loop counts n x sum₀ r₀ i₀ sum r i = Summing x sum r i
 
 abbrev μ-loop : tie.MeasureT-loop
-μ-loop counts x n sum₀ r₀ i₀ sum r i = n - i
-
-add-n : tie.Need-add-n Inv-loop μ-loop
-add-n c =
-    omega (arith, size-true (c .before .args .t2 .len + 1) (c .before .pre .1 .0))
+μ-loop counts n x sum₀ r₀ i₀ sum r i = n - i
 
 loop-holds : tie.Need-loop-holds Inv-loop μ-loop
-loop-holds c = start _ (search needs) (c .before .pre .1 .0) (c .before .pre .1 .1)
+loop-holds c = start _ (search needs) (c .before .pre .1 .1 .0) (c .before .pre .1 .1 .1)
 
 sub-v : tie.Need-sub-v Inv-loop μ-loop
 sub-v c = omega arith
@@ -33,11 +31,17 @@ cast-v c = search needs
 
 pass-requires : tie.Need-pass-requires Inv-loop μ-loop
 pass-requires c κs =
-    let (at, range) = choosing _ _ _ _ (c .before .before .loop .inv) (omega arith) in
-    (c .before .before .before .before .pre .0, (at, omega arith))
+    let pre = c .before .before .before .before .pre in
+    let (place, range) = choosing _ _ _ _ (c .before .before .loop .inv) (omega arith) in
+    (pre .0, (rw (pre .1 .0) place, omega arith))
+
+-- what was passed, by the cells of x
+passed : (c : tie.After-pass Inv-loop μ-loop) → let x = c .before .before .before .before .before .args .t3 in let l = c .before .before .before .loop in
+    (c .pass .result .count ≡ before (cells x) (l .i) (l .r) (at x (l .i))) × (c .pass .result .residue ≡ owed (modulus (cells x)) (l .i) (l .r) (at x (l .i)))
+passed c = rw (c .before .before .before .before .before .pre .1 .0) at (c .pass .ensures)
 
 add-sum : tie.Need-add-sum Inv-loop μ-loop
-add-sum c = omega (arith, sum-fits _ _ _ _ (c .before .before .before .before .loop .inv) (omega arith))
+add-sum c = omega (arith, sum-fits _ _ _ _ (c .before .before .before .before .loop .inv) (omega arith), passed (c .before))
 
 add-i : tie.Need-add-i Inv-loop μ-loop
 add-i c = omega arith
@@ -46,7 +50,7 @@ loop-less : tie.Need-loop-less Inv-loop μ-loop
 loop-less c = omega arith
 
 loop-again : tie.Need-loop-again Inv-loop μ-loop
-loop-again c = step _ _ _ _ (c .before .before .before .before .loop .inv) (omega arith) _ _ (c .before .pass .ensures .0) (c .before .pass .ensures .1)
+loop-again c = step _ _ _ _ (c .before .before .before .before .loop .inv) (omega arith) _ _ (passed (c .before) .0) (passed (c .before) .1)
 
 returns : tie.Need-returns Inv-loop μ-loop
 returns c = end _ _ _ _ (c .before .loop .inv) (omega arith)
@@ -57,7 +61,6 @@ number-by-spec =
     (tie.spec
     Inv-loop
     μ-loop
-    add-n
     loop-holds
     sub-v
     element-copy-out-v

@@ -1,6 +1,6 @@
 -- `code::word` meets its contract: the arm of size 3 + k has block k of the table, which passed the test.
 -- Assumes nothing.
-use mathlib.Core.Path.{_≡_, refl}
+use mathlib.Core.Path.{_≡_}
 use mathlib.Core.Bool.{true}
 use mathlib.Core.List.{[]}
 use Prim.Native.Nat.{ℕ, _+_, _<_}
@@ -9,29 +9,22 @@ use lib.Dec.{T}
 use lib.ListN.{getD}
 use borrow.Author.Needs.{needs}
 use Rattle.order.specs.Refusals.{isSize}
-use Rattle.order.proofs.Refusals.{size-true}
 use Rattle.coordinates.specs.declared.Coordinates.{Coordinates}
 use Rattle.code.specs.declared.table.Table.{Table}
 use Rattle.code.specs.Words.{K, wordAt}
 use Rattle.code.specs.Tails.{Block}
 use Rattle.code.specs.Table.{blocks, tableRight}
 use Rattle.code.specs.Steps.{held}
-use Rattle.code.proofs.Rule.{rule, past}
+use Rattle.code.proofs.Rule.{rule, last-size}
 use Rattle.code.proofs.word.Statement.{statement}
 use Rattle.code.proofs.word.Tie as tie
 
 module _ (c : tie.Start) (k : ℕ) (e : c .args .n ≡ 3 + k) where
   asked : (t : Table) → T (tableRight t) → k < 10 → Block (3 + k) (getD (blocks t) k []) × ((isSize (3 + k) ≡ true) × (c .args .symbol < K (3 + k)))
-  asked t right h = (rule t right k h (3 + k) refl, rw e at (c .pre))
+  asked t right h = (rule t right k h, rw e at (c .pre))
 
   told : (x : Coordinates) → x ≡ held (wordAt (3 + k) (c .args .symbol)) → x ≡ held (wordAt (c .args .n) (c .args .symbol))
   told x q = rw e q
-
--- the last arm's size
-last : (c : tie.At-match-rest) → c .before .args .n ≡ 12
-last c =
-    let n = c .before .args .n in
-    omega (arith, past 3 9 n (c .match .rest) (size-true n (c .before .pre .0) .0), size-true n (c .before .pre .0))
 
 word-by-requires : tie.Need-word-by-requires
 word-by-requires c κs = asked (c .before .before .before .before) 0 (omega arith) _ (c .before .before .tail-counts .ensures) (omega arith)
@@ -61,7 +54,7 @@ word-by-requires-9 : tie.Need-word-by-requires-9
 word-by-requires-9 c κs = asked (c .before .before .before .before) 8 (omega arith) _ (c .before .before .tail-counts9 .ensures) (omega arith)
 
 word-by-requires-10 : tie.Need-word-by-requires-10
-word-by-requires-10 c κs = asked (c .before .before .before .before) 9 (last (c .before .before .before)) _ (c .before .before .tail-counts10 .ensures) (omega arith)
+word-by-requires-10 c κs = asked (c .before .before .before .before) 9 (last-size _ (c .before .before .before .before .pre .0) (c .before .before .before .match .rest)) _ (c .before .before .tail-counts10 .ensures) (omega arith)
 
 returns : tie.Need-returns
 returns c = told (c .before .before .before .before .before) 0 (omega arith) _ (c .word-by .ensures)
@@ -91,7 +84,7 @@ returns-9 : tie.Need-returns-9
 returns-9 c = told (c .before .before .before .before .before) 8 (omega arith) _ (c .word-by9 .ensures)
 
 returns-10 : tie.Need-returns-10
-returns-10 c = told (c .before .before .before .before .before) 9 (last (c .before .before .before .before)) _ (c .word-by10 .ensures)
+returns-10 c = told (c .before .before .before .before .before) 9 (last-size _ (c .before .before .before .before .before .pre .0) (c .before .before .before .before .match .rest)) _ (c .word-by10 .ensures)
 
 pub word-spec : {M : Type 1} → statement M
 word-spec =

@@ -6,23 +6,16 @@ use Prim.Native.Nat.{ℕ, _+_, _<_}
 use native.Mathlib.Omega.{arith}
 use lib.ListN.{getD}
 use borrow.Author.Needs.{needs}
-use Rattle.order.proofs.Refusals.{size-true}
 use Rattle.code.specs.Words.{K}
 use Rattle.code.specs.Table.{blocks}
-use Rattle.code.proofs.Rule.{rule, past}
+use Rattle.code.proofs.Rule.{rule, last-size}
 use Rattle.code.proofs.Laws.{first-count}
 use Rattle.code.proofs.words_of.Statement.{statement}
 use Rattle.code.proofs.words_of.Tie as tie
 
 -- in the arm of size 3 + k
 first : (c : tie.After-tail-counts) (k : ℕ) → k < 10 → c .before .args .n ≡ 3 + k → getD (getD (blocks (c .tail-counts .result)) k []) 0 0 ≡ K (c .before .args .n)
-first c k h e = first-count (c .before .args .n) (omega arith) (omega arith) (omega arith) (rule _ (c .tail-counts .ensures) k h _ e)
-
--- the last arm's size
-last : (c : tie.At-match-rest) → c .before .before .args .n ≡ 12
-last c =
-    let n = c .before .before .args .n in
-    omega (arith, past 3 9 n (c .match .rest) (size-true n (c .before .before .pre) .0), size-true n (c .before .before .pre))
+first c k h e = rw e (first-count (3 + k) (omega arith) (omega arith) (omega arith) (rule _ (c .tail-counts .ensures) k h))
 
 returns : tie.Need-returns
 returns c = first (c .before .before) 0 (omega arith) (omega arith)
@@ -52,7 +45,7 @@ returns-9 : tie.Need-returns-9
 returns-9 c = first (c .before .before) 8 (omega arith) (omega arith)
 
 returns-10 : tie.Need-returns-10
-returns-10 c = first (c .before .before) 9 (omega arith) (last (c .before))
+returns-10 c = first (c .before .before) 9 (omega arith) (last-size _ (c .before .before .before .pre) (c .before .match .rest))
 
 pub words-of-spec : {M : Type 1} → statement M
 words-of-spec =
