@@ -5,7 +5,7 @@ pub mod Checks
 pub mod Orders
 pub mod Raising
 pub mod Sensed
-pub mod Sinking
+pub mod Settling
 pub mod Groups
 pub mod Told
 pub mod Row
