@@ -368,7 +368,7 @@ fn put_lines(p: Progress, input: &[u8], out: &mut [u8]) -> Piece
 {
     let count = input.len() / 8;
     let handed = p.group;
-    let mut g = handed;
+    let mut g = by_fields(handed);
     let mut pulses = p.pulses;
     let mut position = p.records;
     let mut end = 0;

@@ -14,8 +14,11 @@ Inv-loop input out₀ count g₀ pulses₀ position₀ end₀ i₀ out g pulses 
 abbrev μ-loop : tie.MeasureT-loop
 μ-loop input out₀ count g₀ pulses₀ position₀ end₀ i₀ out g pulses position end i = count - i
 
+by-fields-requires : tie.Need-by-fields-requires Inv-loop μ-loop
+by-fields-requires c κs = search needs
+
 loop-holds : tie.Need-loop-holds Inv-loop μ-loop
-loop-holds c = running-starts (c .before .before .before .pre)
+loop-holds c = running-starts (c .before .before .before .before .pre)
 
 record-at-requires : tie.Need-record-at-requires Inv-loop μ-loop
 record-at-requires c κs = let run = c .before .loop .inv in omega (arith, run .whole, c .loop-test .taken)
@@ -47,8 +50,8 @@ add-pulses c =
     let run = t .before .loop .inv in
     omega (arith, t .loop-test .taken, run .place, run .few, run .small, c .struct-known .given)
 
-by-fields-requires : tie.Need-by-fields-requires Inv-loop μ-loop
-by-fields-requires c κs = search needs
+by-fields-requires-2 : tie.Need-by-fields-requires-2 Inv-loop μ-loop
+by-fields-requires-2 c κs = search needs
 
 loop-less : tie.Need-loop-less Inv-loop μ-loop
 loop-less c = omega (arith, c .before .before .before .before .before .before .before .before .before .loop-test .taken)
@@ -58,7 +61,7 @@ loop-again c =
     let p = c .before .before .before .before .before in
     let s = p .before .before in
     let t = s .before .before in
-    rw (c .by-fields .ensures)
+    rw (c .by-fields2 .ensures)
     (running-steps
     (s .step .result)
     (t .before .loop .inv)
@@ -75,7 +78,10 @@ same-length c = c .before .loop .inv .puts .kept
 returns : tie.Need-returns Inv-loop μ-loop
 returns c =
     let run = c .before .loop .inv in
-    (lines-put run (c .loop-test .left), (omega (arith, run .within, run .reached, run .whole), progress-made run (c .loop-test .left)))
+    let same = c .before .before .by-fields .ensures in (
+      rw same at (lines-put run (c .loop-test .left)),
+      (omega (arith, run .within, run .reached, run .whole), rw same at (progress-made run (c .loop-test .left))),
+    )
 
 pub put-lines-spec : {M : Type 1} → statement M
 put-lines-spec =
@@ -83,6 +89,7 @@ put-lines-spec =
     (tie.spec
     Inv-loop
     μ-loop
+    by-fields-requires
     loop-holds
     record-at-requires
     step-requires
@@ -91,7 +98,7 @@ put-lines-spec =
     put-line-requires
     cast-pulses
     add-pulses
-    by-fields-requires
+    by-fields-requires-2
     loop-less
     loop-again
     same-length
