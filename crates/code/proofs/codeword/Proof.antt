@@ -51,7 +51,7 @@ some : (c : tie.Else2) → let a = c .before .before .before .before .args in a 
 some c = omega (arith, c .before .words-of .ensures)
 
 word-requires : tie.Need-word-requires
-word-requires c κs = (sized (c .before .before), some c)
+word-requires c κs = (sized (c .before .before), omega (arith, some c))
 
 from-coordinates-requires : tie.Need-from-coordinates-requires
 from-coordinates-requires c κs = search needs
