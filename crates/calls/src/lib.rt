@@ -444,12 +444,16 @@ fn put_numbers(
     put_field(out, end, pulses)
 }
 
-// A blank, and a number after it.
+// A blank, and a number after it: one digit as a rule.
 fn put_field(out: &mut [u8], at: usize, n: u32) -> usize
     requires { ⌜ at + 11 ≤ length (now out) ⌝ }
     ensures { λ r. ⌜ Puts (now (out .entry)) (now (out .exit)) at r (after 32 n) ⌝ }
     ensures { λ r. ⌜ r ≤ at + 11 ⌝ }
 {
+    if n < 10 {
+        let both = 12320 + 256 * n;
+        return put_two(out, at, both);
+    }
     put_after(out, at, BLANK, n as u64)
 }
 
@@ -572,12 +576,20 @@ fn put_four(out: &mut [u8], at: usize, n: u32) -> usize
     put_pair(out, end, n % 100)
 }
 
-// Two digits: one number holds both, so that the compiler makes one store of the two.
+// Two digits.
 fn put_pair(out: &mut [u8], at: usize, n: u32) -> usize
     requires { ⌜ (n < 100) × (at + 2 ≤ length (now out)) ⌝ }
     ensures { λ r. ⌜ Puts (now (out .entry)) (now (out .exit)) at r (pair n) ⌝ }
 {
     let both = 12336 + n / 10 + 256 * (n % 10);
+    put_two(out, at, both)
+}
+
+// Two bytes, which are one number, low byte first: the compiler makes one store of them.
+fn put_two(out: &mut [u8], at: usize, both: u32) -> usize
+    requires { ⌜ (both < 65536) × (at + 2 ≤ length (now out)) ⌝ }
+    ensures { λ r. ⌜ Puts (now (out .entry)) (now (out .exit)) at r (both % 256 ∷ both / 256 ∷ []) ⌝ }
+{
     out[at] = (both % 256) as u8;
     out[at + 1] = (both / 256) as u8;
     at + 2
