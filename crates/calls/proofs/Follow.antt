@@ -36,14 +36,14 @@ lines-append k g (r ∷ rs) ss =
 -- the lines of more records are those of the first, and of the others from where the run then stands
 pub lines-follow : (p : Progress) (rs ss : List CallRecord) → linesFrom p (rs ++ ss) ≡ linesFrom p rs ++ linesFrom (progressAfter p rs) ss
 lines-follow p rs ss =
-    let e : suc (p .records) + length rs ≡ suc (p .records + length rs) = omega arith in
-    lines-append (suc (p .records)) (p .group) rs ss
+    let e : suc (p .position) + length rs ≡ suc (p .position + length rs) = omega arith in
+    lines-append (suc (p .position)) (p .group) rs ss
     ∙ ap (λ (j : ℕ). linesFrom p rs ++ lines j (groupAfter (p .group) rs) ss) e
 
 -- where a run stands after more records
 pub progress-follows : (p : Progress) (rs ss : List CallRecord) → progressAfter p (rs ++ ss) ≡ progressAfter (progressAfter p rs) ss
 progress-follows p rs ss =
-    let records : p .records + length (rs ++ ss) ≡ p .records + length rs + length ss = omega (arith, length-append rs ss) in
+    let records : p .position + length (rs ++ ss) ≡ p .position + length rs + length ss = omega (arith, length-append rs ss) in
     let pulses : p .pulses + allPulses (p .group) (rs ++ ss) ≡ p .pulses + allPulses (p .group) rs + allPulses (groupAfter (p .group) rs) ss =
     omega (arith, pulses-append (p .group) rs ss) in
-    λ i. record { records = records i; group = (group-append (p .group) rs ss) i; pulses = pulses i }
+    λ i. record { position = records i; group = (group-append (p .group) rs ss) i; pulses = pulses i }

@@ -13,7 +13,7 @@ use Rattle.calls.specs.declared.CallRecord.{CallRecord}
 use Rattle.calls.specs.declared.Progress.{Progress}
 use Rattle.calls.specs.Records.{recordAt, records}
 use Rattle.calls.specs.Text.{leftLine, sumLine, textOf, room}
-use Rattle.calls.specs.Pieces.{beginning, progressAfter, linesFrom, textFrom, goesOn, linesPrinted, pieceOf, endPrinted, Lent, Whole, joined, allPrinted}
+use Rattle.calls.specs.Pieces.{beginning, progressAfter, linesFrom, textFrom, goesOn, ends, linesPrinted, pieceOf, endPrinted, Lent, Whole, allBytes, allPrinted}
 use Rattle.calls.proofs.Course.{Begun, stream-begun}
 use Rattle.calls.proofs.Pulses.{pulses-most}
 use Rattle.calls.proofs.Follow.{lines-follow, progress-follows}
@@ -40,7 +40,7 @@ text-cut p xs ys e =
 
 pub record Stands (p : Progress) : Type 0 where
   pub begun : Begun (p .group)
-  pub small : p .pulses ≤ 49140 * p .records
+  pub small : p .pulses ≤ 49140 * p .position
 
 pub beginning-stands : Stands beginning
 beginning-stands = record { begun = inl refl; small = omega arith }
@@ -53,12 +53,14 @@ after-stands p rs s =
     }
 
 -- no piece of its first 65,536 bytes is refused for where it stands
-pub stands-goes-on : (p : Progress) (bs out : List ℕ) → Stands p → 8 * p .records + length bs ≤ 65536 → room (length bs) ≤ length out
-    → goesOn p bs out ≡ true
-stands-goes-on p bs out s few r =
-    let records : p .records + length bs / 8 ≤ 8192 = omega arith in
-    let pulses : p .pulses ≤ 4294967295 * p .records = omega (arith, s .small) in
-    rw (le-leb (p .records + length bs / 8) 8192 records, le-leb (p .pulses) (4294967295 * p .records) pulses, le-leb (room (length bs)) (length out) r) refl
+module _ (p : Progress) (bs out : List ℕ) (s : Stands p) (few : 8 * p .position + length bs ≤ 65536) (r : room (length bs) ≤ length out) where
+  pub stands-ends : ends p bs out ≡ true
+  stands-ends =
+      let pulses : p .pulses ≤ 4294967295 * p .position = omega (arith, s .small) in
+      rw (le-leb (8 * p .position + length bs) 65536 few, le-leb (p .pulses) (4294967295 * p .position) pulses, le-leb (room (length bs)) (length out) r) refl
+
+  pub stands-goes-on : length bs % 8 ≡ 0 → goesOn p bs out ≡ true
+  stands-goes-on e = rw (e, stands-ends) refl
 
 -- ---- a run in pieces
 
@@ -67,23 +69,23 @@ unfolding records
 records-length bs = length-tabulate (length bs / 8) (recordAt bs)
 
 pieces-from : (p : Progress) (ls : List Lent) (last : Lent) → Stands p → Whole ls → room (length (last .bytes)) ≤ length (last .out)
-    → 8 * p .records + length (joined ls (last .bytes)) ≤ 65536
-    → allPrinted p ls last ≡ textFrom p (joined ls (last .bytes))
+    → 8 * p .position + length (allBytes ls (last .bytes)) ≤ 65536
+    → allPrinted p ls last ≡ textFrom p (allBytes ls (last .bytes))
 unfolding endPrinted linesPrinted pieceOf
-pieces-from p [] last s w r few = rw (stands-goes-on p (last .bytes) (last .out) s few r) refl
+pieces-from p [] last s w r few = rw (stands-ends p (last .bytes) (last .out) s few r) refl
 pieces-from p (l ∷ ls) last s w r few =
     let rs = records (l .bytes) in
-    let others = joined ls (last .bytes) in
+    let others = allBytes ls (last .bytes) in
     let size = length-append (l .bytes) others in
-    let part : 8 * p .records + length (l .bytes) ≤ 65536 = omega (arith, few, size) in
-    let more : 8 * (p .records + length rs) + length others ≤ 65536 = omega (arith, few, size, records-length (l .bytes)) in
-    rw (stands-goes-on p (l .bytes) (l .out) s part (w .1))
+    let part : 8 * p .position + length (l .bytes) ≤ 65536 = omega (arith, few, size) in
+    let more : 8 * (p .position + length rs) + length others ≤ 65536 = omega (arith, few, size, records-length (l .bytes)) in
+    rw (stands-goes-on p (l .bytes) (l .out) s part (w .1) (w .0))
     (ap (λ (t : List ℕ). linesFrom p rs ++ t) (pieces-from (progressAfter p rs) ls last (after-stands p rs s) (w .2) r more)
     ∙ sym (text-cut p (l .bytes) others (w .0)))
 
 -- an input of at most 65,536 bytes, cut at whole records, each piece with a buffer that has room for it: its text is printed
 pub pieces-print : (ls : List Lent) (last : Lent) → Whole ls → room (length (last .bytes)) ≤ length (last .out)
-    → length (joined ls (last .bytes)) ≤ 65536
-    → allPrinted beginning ls last ≡ textOf (joined ls (last .bytes))
+    → length (allBytes ls (last .bytes)) ≤ 65536
+    → allPrinted beginning ls last ≡ textOf (allBytes ls (last .bytes))
 pieces-print ls last w r few =
-    pieces-from beginning ls last beginning-stands w r (omega (arith, few)) ∙ text-begun (joined ls (last .bytes))
+    pieces-from beginning ls last beginning-stands w r (omega (arith, few)) ∙ text-begun (allBytes ls (last .bytes))

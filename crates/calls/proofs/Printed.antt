@@ -1,7 +1,7 @@
 -- What a piece, the last piece and a whole input leave in a lent buffer, as `go_on`, `finish` and `run` put it.
 -- Assumes nothing.
 use mathlib.Core.Path.{_≡_, refl, sym, ap, _∙_}
-use Prim.Native.Nat.{ℕ, _+_, _/_, _%_, _≤_, _<_, min}
+use Prim.Native.Nat.{ℕ, _+_, _*_, _%_, _≤_, _<_, min}
 use native.Mathlib.Omega.{arith}
 use native.Mathlib.Nat.{zero-add}
 use mathlib.Core.Bool.{Bool, true, false}
@@ -11,11 +11,11 @@ use lib.ListN.{length, take, drop, length-take}
 use lib.Seq.{take-all}
 use borrow.Author.Tests.{leb-true, leb-false, le-leb}
 use Rattle.calls.specs.declared.Progress.{Progress}
-use Rattle.calls.specs.declared.Piece.{Piece}
+use Rattle.calls.specs.declared.PieceAnswer.{PieceAnswer}
 use Rattle.calls.specs.Records.{records}
 use Rattle.calls.specs.Text.{leftLine, sumLine, textOf, taken, printed, allPulses, lines}
 use Rattle.group.specs.Record.{noGroup}
-use Rattle.calls.specs.Pieces.{beginning, progressAfter, linesFrom, textFrom, goesOn, linesPrinted, pieceOf, endPrinted}
+use Rattle.calls.specs.Pieces.{beginning, progressAfter, linesFrom, textFrom, goesOn, ends, linesPrinted, pieceOf, endPrinted}
 use Rattle.calls.specs.Steps.{pasted, Puts}
 use Rattle.calls.proofs.Paste.{puts-as}
 
@@ -32,7 +32,7 @@ module _ (p : Progress) (bs out : List ℕ) where
   unfolding pieceOf linesPrinted
   piece-refused e = rw e (refl, refl)
 
-  pub end-refused : goesOn p bs out ≡ false → (0 ≡ length (endPrinted p bs out)) × (out ≡ endPrinted p bs out ++ out)
+  pub end-refused : ends p bs out ≡ false → (0 ≡ length (endPrinted p bs out)) × (out ≡ endPrinted p bs out ++ out)
   unfolding endPrinted
   end-refused e = rw e (refl, refl)
 
@@ -41,16 +41,17 @@ module _ (p : Progress) (bs out : List ℕ) where
     unfolding linesPrinted
     lines-printed = rw e refl
 
-    piece-same : (r : Piece) → r .end ≡ length (linesPrinted p bs out) → r .progress ≡ progressAfter p (records bs) → r ≡ pieceOf p bs out
+    piece-same : (r : PieceAnswer) → r .end ≡ length (linesPrinted p bs out) → r .progress ≡ progressAfter p (records bs) → r ≡ pieceOf p bs out
     unfolding pieceOf
     piece-same r l q = rw e (λ i. record { end = l i; progress = q i })
 
-    pub piece-put : {last : List ℕ} (r : Piece) → Puts out last 0 (r .end) (linesFrom p (records bs)) → r .progress ≡ progressAfter p (records bs)
+    pub piece-put : {last : List ℕ} (r : PieceAnswer) → Puts out last 0 (r .end) (linesFrom p (records bs)) → r .progress ≡ progressAfter p (records bs)
         → (r ≡ pieceOf p bs out) × (last ≡ linesPrinted p bs out ++ drop (r .end) out)
     piece-put {last} r w q =
         let t : (r .end ≡ length (linesPrinted p bs out)) × (last ≡ linesPrinted p bs out ++ drop (r .end) out) = first-put lines-printed w in
         (piece-same r (t .0) q, t .1)
 
+  module _ (e : ends p bs out ≡ true) where
     text-printed : (q : Progress) → q ≡ progressAfter p (records bs)
         → linesFrom p (records bs) ++ leftLine (length bs % 8) ++ sumLine (q .pulses) ≡ endPrinted p bs out
     unfolding endPrinted textFrom
@@ -86,5 +87,5 @@ module _ (bs : List ℕ) (size : ℕ) (e : size ≡ min 65536 (length bs)) where
   pub whole-printed : (out : List ℕ) → endPrinted beginning (take size bs) out ≡ printed bs out
   unfolding endPrinted printed
   whole-printed out =
-      let few : 0 + length (taken bs) / 8 ≤ 8192 = omega (arith, length-take 65536 bs) in
-      rw (part-taken, le-leb (0 + length (taken bs) / 8) 8192 few, text-begun (taken bs)) refl
+      let few : 8 * 0 + length (taken bs) ≤ 65536 = omega (arith, length-take 65536 bs) in
+      rw (part-taken, le-leb (8 * 0 + length (taken bs)) 65536 few, text-begun (taken bs)) refl

@@ -24,9 +24,9 @@ use Rattle.calls.proofs.Paste.{puts-none, puts-join, puts-as}
 use Rattle.calls.proofs.Follow.{lines-follow, progress-follows}
 
 -- what it is that a run takes a piece
-pub taken-parts : (k q size space : ℕ) → takes k q size space ≡ true → (k + size / 8 ≤ 8192) × (q ≤ 4294967295 * k) × (room size ≤ space)
+pub taken-parts : (k q size space : ℕ) → takes k q size space ≡ true → (8 * k + size ≤ 65536) × (q ≤ 4294967295 * k) × (room size ≤ space)
 taken-parts k q size space e =
-    let t = both (leb (k + size / 8) 8192) _ e in
+    let t = both (leb (8 * k + size) 65536) _ e in
     let u = both (leb q (4294967295 * k)) (leb (room size) space) (t .1) in
     (leb-true _ _ (t .0), leb-true _ _ (u .0), leb-true _ _ (u .1))
 
@@ -46,18 +46,18 @@ none-left bs =
 
 -- one record more
 module _ (q : Progress) (r : CallRecord) (a : Answered) (s : toldAnswered a ≡ stepOf (q .group) r) where
-  pub after-one : progressAfter q (r ∷ []) ≡ record { records = q .records + 1; group = a .group; pulses = q .pulses + a .pulses }
+  pub after-one : progressAfter q (r ∷ []) ≡ record { position = q .position + 1; group = a .group; pulses = q .pulses + a .pulses }
   unfolding allPulses
   after-one =
       let pulses : q .pulses + (stepOf (q .group) r .value .pulses + 0) ≡ q .pulses + a .pulses =
       ap (λ (t : Told Answer). q .pulses + (t .value .pulses + 0)) (sym s) ∙ ap (λ (k : ℕ). q .pulses + k) (add-zero (a .pulses)) in
-      λ i. record { records = q .records + 1; group = (ap (λ (t : Told Answer). t .value .group) (sym s)) i; pulses = pulses i }
+      λ i. record { position = q .position + 1; group = (ap (λ (t : Told Answer). t .value .group) (sym s)) i; pulses = pulses i }
 
-  pub line-one : linesFrom q (r ∷ []) ≡ lineOf (q .records + 1) (r .kind) (toldAnswered a)
+  pub line-one : linesFrom q (r ∷ []) ≡ lineOf (q .position + 1) (r .kind) (toldAnswered a)
   unfolding lines
   line-one =
-      let next : suc (q .records) ≡ q .records + 1 = omega arith in
-      append-nil _ ∙ ap (λ (t : Told Answer). lineOf (suc (q .records)) (r .kind) t) (sym s)
+      let next : suc (q .position) ≡ q .position + 1 = omega arith in
+      append-nil _ ∙ ap (λ (t : Told Answer). lineOf (suc (q .position)) (r .kind) t) (sym s)
       ∙ ap (λ (k : ℕ). lineOf k (r .kind) (toldAnswered a)) next
 
 -- the loop: i records of the piece are done, and the run stands at q; what was put and the lines to come are all the lines, and the run goes
@@ -65,27 +65,27 @@ module _ (q : Progress) (r : CallRecord) (a : Answered) (s : toldAnswered a ≡ 
 pub record Running (p : Progress) (bs : List ℕ) (count : ℕ) (empty now : List ℕ) (q : Progress) (end i : ℕ) : Type 0 where
   pub whole : count ≡ length bs / 8
   pub reached : i ≤ count
-  pub few : p .records + count ≤ 8192
+  pub few : p .position + count ≤ 8192
   pub room : 128 * count ≤ length empty
   pub within : end ≤ 128 * i
-  pub place : q .records ≡ p .records + i
-  pub small : q .pulses ≤ 4294967295 * q .records
+  pub place : q .position ≡ p .position + i
+  pub small : q .pulses ≤ 4294967295 * q .position
   pub said : List ℕ
   pub puts : Puts empty now 0 end said
   pub rest : said ++ linesFrom q (drop i (records bs)) ≡ linesFrom p (records bs)
   pub goes : progressAfter q (drop i (records bs)) ≡ progressAfter p (records bs)
 
-pub running-starts : {p : Progress} {bs empty : List ℕ} → takes (p .records) (p .pulses) (length bs) (length empty) ≡ true
+pub running-starts : {p : Progress} {bs empty : List ℕ} → takes (p .position) (p .pulses) (length bs) (length empty) ≡ true
     → Running p bs (length bs / 8) empty empty p 0 0
 running-starts {p} {bs} {empty} e =
-    let t = taken-parts (p .records) (p .pulses) (length bs) (length empty) e in
+    let t = taken-parts (p .position) (p .pulses) (length bs) (length empty) e in
     record {
       whole = refl;
       reached = omega arith;
-      few = t .0;
+      few = omega (arith, t .0);
       room = omega (arith, t .2);
       within = omega arith;
-      place = sym (add-zero (p .records));
+      place = sym (add-zero (p .position));
       small = t .1;
       said = [];
       puts = puts-none empty 0 (omega arith);
@@ -95,12 +95,12 @@ running-starts {p} {bs} {empty} e =
 
 pub running-steps : {p q : Progress} {bs empty now later : List ℕ} {count end next i : ℕ} {r : CallRecord} (a : Answered)
     → Running p bs count empty now q end i → i < count → r ≡ recordAt bs i → toldAnswered a ≡ stepOf (q .group) r → a .pulses < 4294967296
-    → Puts now later end next (lineOf (q .records + 1) (r .kind) (toldAnswered a)) → next ≤ end + 128
-    → Running p bs count empty later (record { records = q .records + 1; group = a .group; pulses = q .pulses + a .pulses }) next (i + 1)
+    → Puts now later end next (lineOf (q .position + 1) (r .kind) (toldAnswered a)) → next ≤ end + 128
+    → Running p bs count empty later (record { position = q .position + 1; group = a .group; pulses = q .pulses + a .pulses }) next (i + 1)
 running-steps {p} {q} {bs} {empty} {now} {later} {count} {end} {next} {i} {r} a run h e s b w n =
     let rs = drop (i + 1) (records bs) in
-    let after : Progress = record { records = q .records + 1; group = a .group; pulses = q .pulses + a .pulses } in
-    let line = lineOf (q .records + 1) (r .kind) (toldAnswered a) in
+    let after : Progress = record { position = q .position + 1; group = a .group; pulses = q .pulses + a .pulses } in
+    let line = lineOf (q .position + 1) (r .kind) (toldAnswered a) in
     let here : drop i (records bs) ≡ r ∷ rs = next-record bs i (omega (arith, run .whole)) ∙ ap (λ (x : CallRecord). x ∷ rs) (sym e) in
     let one : progressAfter q (r ∷ []) ≡ after = after-one q r a s in
     let text : linesFrom q (drop i (records bs)) ≡ line ++ linesFrom after rs =
@@ -134,9 +134,9 @@ module _ {p q : Progress} {bs empty now : List ℕ} {count end i : ℕ} (run : R
   after-none : (x : Progress) → x ≡ progressAfter x []
   unfolding allPulses
   after-none x =
-      let records : x .records ≡ x .records + 0 = sym (add-zero (x .records)) in
+      let records : x .position ≡ x .position + 0 = sym (add-zero (x .position)) in
       let pulses : x .pulses ≡ x .pulses + 0 = sym (add-zero (x .pulses)) in
-      λ j. record { records = records j; group = x .group; pulses = pulses j }
+      λ j. record { position = records j; group = x .group; pulses = pulses j }
 
   pub progress-made : q ≡ progressAfter p (records bs)
   progress-made = after-none q ∙ ap (progressAfter q) (sym nothing-left) ∙ run .goes

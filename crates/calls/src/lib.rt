@@ -14,19 +14,18 @@ use order::Order;
 use order::Outcome;
 use order::Refusal;
 ghost use mathlib.Core.Path.{_≡_};
-ghost use mathlib.Core.Bool.{true};
+ghost use mathlib.Core.Bool.{true, _&&_};
 ghost use mathlib.Core.List.{[], _∷_, _++_};
 ghost use Prim.Native.Nat.{_+_, _*_, _/_, _%_, _≤_, _<_, min};
+ghost use lib.Dec.{eqb};
 ghost use lib.ListN.{length, take, drop};
 ghost use Rattle.order.specs.Refusals.{outcomeNumber};
-ghost use Rattle.order.specs.Cells.{tabulate};
 ghost use Rattle.order.specs.Order.{noOrder};
-ghost use Rattle.group.specs.Record.{noGroup};
 ghost use Rattle.group.specs.Calls.{toldChanged, toldWritten, openOf};
 ghost use Rattle.engine.specs.Calls.{toldRead};
 ghost use Rattle.engine.specs.Machine.{toldApplied, afterProgram, afterChange, afterRead, applyOf};
 ghost use Rattle.calls.specs.Records.{lowFirst, recordAt, records, usesCell, unusedZero, requestOf, toldAnswered, groupAlone, afterApply, afterOpen, stepOf};
-ghost use Rattle.calls.specs.Text.{decimal, after, levelText, numbersOf, lineOf, leftLine, sumLine, room, printed};
+ghost use Rattle.calls.specs.Text.{decimal, after, levelText, numbersOf, lineOf, leftLine, sumLine, printed};
 ghost use Rattle.calls.specs.Pieces.{beginning, progressAfter, linesFrom, takes, pieceOf, linesPrinted, endPrinted};
 ghost use Rattle.calls.specs.Steps.{Puts, pair};
 
@@ -38,11 +37,13 @@ const DASH: u8 = 45;
 
 const LINE_FEED: u8 = 10;
 
+// Two digits 0, and a blank and a digit 0, as one number each, low byte first.
+const ZEROS: u32 = 48 + 256 * 48;
+
+const BLANK_ZERO: u32 = 32 + 256 * 48;
+
 // The most bytes of an input that are read.
 const MOST: usize = 65536;
-
-// The most records that they are.
-const MOST_RECORDS: usize = 8192;
 
 // The most pulses that a record's answer can hold.
 const MOST_PULSES: u64 = 4294967295;
@@ -70,15 +71,15 @@ pub enum Request {
     Apply(Kind),
 }
 
-// Where a run stands between two pieces of its input: how many records were answered, the group that the last of them left, and the pulses of all.
+// Where a run stands between two pieces of its input: the position of the last record answered, the group that it left, and the pulses of all.
 pub struct Progress {
-    pub records: u32,
+    pub position: u32,
     pub group: Group,
     pub pulses: u64,
 }
 
 // Where the lines of a piece end, and where the run then stands.
-pub struct Piece {
+pub struct PieceAnswer {
     pub end: usize,
     pub progress: Progress,
 }
@@ -109,7 +110,7 @@ pub fn begin() -> Progress
     ensures { λ p. ⌜ p ≡ beginning ⌝ }
 {
     Progress {
-        records: 0,
+        position: 0,
         group: Group {
             n: 0,
             levels: [0; 12],
@@ -120,15 +121,15 @@ pub fn begin() -> Progress
     }
 }
 
-// Puts the lines of a piece's whole records at the start of out, and answers where they end and where the run then stands. Bytes that fill no
-// record are left out: a piece that is not the last should have none. Where out is shorter than 16 bytes for each byte of the piece, and 64, or
-// where no run of 65,536 bytes stands so, nothing is put and nothing goes on.
-pub fn go_on(p: Progress, input: &[u8], out: &mut [u8]) -> Piece
+// Puts the lines of a piece at the start of out, and answers where they end and where the run then stands. A piece that is not of whole records
+// or would take the run past 65,536 bytes is not taken, nor is any where out is shorter than 16 bytes for each of its bytes, and 64, or where the
+// run has more pulses than so many records can have: out stays as it was, the run where it was, and the end is 0, which no piece with a record has.
+pub fn go_on(p: Progress, input: &[u8], out: &mut [u8]) -> PieceAnswer
     ensures { λ r. ⌜ r ≡ pieceOf p (now (input .entry)) (now (out .entry)) ⌝ }
     ensures { λ r. ⌜ now (out .exit) ≡ linesPrinted p (now (input .entry)) (now (out .entry)) ++ drop (r .end) (now (out .entry)) ⌝ }
 {
-    if !goes_on(p.records, p.pulses, input.len(), out.len()) {
-        return Piece {
+    if !goes_on(p.position, p.pulses, input.len(), out.len()) {
+        return PieceAnswer {
             end: 0,
             progress: p,
         };
@@ -137,13 +138,13 @@ pub fn go_on(p: Progress, input: &[u8], out: &mut [u8]) -> Piece
 }
 
 // Puts the lines of the last piece, the line of its leftover bytes and that of all pulses at the start of out, and answers how many bytes
-// that is. Where `go_on` puts nothing, neither does this, and the answer is 0.
+// that is. What `go_on` does not take is not taken here either, but for leftover bytes: out stays as it was, and the answer is 0.
 pub fn finish(p: Progress, input: &[u8], out: &mut [u8]) -> usize
     ensures { λ r. ⌜ r ≡ length (endPrinted p (now (input .entry)) (now (out .entry))) ⌝ }
     ensures { λ r. ⌜ now (out .exit) ≡ endPrinted p (now (input .entry)) (now (out .entry)) ++ drop r (now (out .entry)) ⌝ }
 {
     let size = input.len();
-    if !goes_on(p.records, p.pulses, size, out.len()) {
+    if !takes(p.position, p.pulses, size, out.len()) {
         return 0;
     }
     let last = put_lines(p, input, out);
@@ -152,14 +153,28 @@ pub fn finish(p: Progress, input: &[u8], out: &mut [u8]) -> usize
     put_sum(out, left, done.pulses)
 }
 
-// Whether a run may stand at so many records and pulses and take a piece of a size, and its text has room in so many bytes.
-fn goes_on(records: u32, pulses: u64, size: usize, space: usize) -> bool
-    ensures { λ b. ⌜ b ≡ takes records pulses size space ⌝ }
+// Whether a run takes a piece of a size that is not its last.
+fn goes_on(position: u32, pulses: u64, size: usize, space: usize) -> bool
+    ensures { λ b. ⌜ b ≡ (eqb (size % 8) 0 && takes position pulses size space) ⌝ }
 {
-    if MOST_RECORDS < records as usize + size / 8 {
+    if size % 8 == 0 {
+        takes(position, pulses, size, space)
+    } else {
+        false
+    }
+}
+
+// Whether a run that stands at a position with so many pulses takes a piece of a size, and its text has room in so many bytes.
+fn takes(position: u32, pulses: u64, size: usize, space: usize) -> bool
+    ensures { λ b. ⌜ b ≡ takes position pulses size space ⌝ }
+{
+    if MOST < size {
         return false;
     }
-    if pulses > MOST_PULSES * records as u64 {
+    if MOST < 8 * position as usize + size {
+        return false;
+    }
+    if pulses > MOST_PULSES * position as u64 {
         return false;
     }
     16 * size + 64 <= space
@@ -237,7 +252,7 @@ fn open(g: Group, n: u32) -> Answered
     alone(outcome, group)
 }
 
-// A call of the machine. None of the kinds here has an order, so that a write has the empty one.
+// A call of the machine, by the function that the machine calls for it. No record asks for a write; one without an order is refused.
 fn apply(g: Group, kind: Kind) -> Answered
     ensures { λ a. ⌜ toldAnswered a ≡ afterApply (applyOf g (record { kind = kind; target = noOrder })) ⌝ }
 {
@@ -360,8 +375,8 @@ fn wide(b: u8) -> u16
 }
 
 // The lines of the whole records of a piece, at the start of out.
-fn put_lines(p: Progress, input: &[u8], out: &mut [u8]) -> Piece
-    requires { ⌜ takes (p .records) (p .pulses) (length (now input)) (length (now out)) ≡ true ⌝ }
+fn put_lines(p: Progress, input: &[u8], out: &mut [u8]) -> PieceAnswer
+    requires { ⌜ takes (p .position) (p .pulses) (length (now input)) (length (now out)) ≡ true ⌝ }
     ensures { λ r. ⌜ Puts (now (out .entry)) (now (out .exit)) 0 (r .end) (linesFrom p (records (now (input .entry)))) ⌝ }
     ensures { λ r. ⌜ r .end ≤ 16 * length (now (input .entry)) ⌝ }
     ensures { λ r. ⌜ r .progress ≡ progressAfter p (records (now (input .entry))) ⌝ }
@@ -370,7 +385,7 @@ fn put_lines(p: Progress, input: &[u8], out: &mut [u8]) -> Piece
     let handed = p.group;
     let mut g = by_fields(handed);
     let mut pulses = p.pulses;
-    let mut position = p.records;
+    let mut position = p.position;
     let mut end = 0;
     let mut i = 0;
     while i < count {
@@ -383,10 +398,10 @@ fn put_lines(p: Progress, input: &[u8], out: &mut [u8]) -> Piece
         let next = a.group;
         g = by_fields(next);
     }
-    Piece {
+    PieceAnswer {
         end,
         progress: Progress {
-            records: position,
+            position,
             group: g,
             pulses,
         },
@@ -451,7 +466,7 @@ fn put_field(out: &mut [u8], at: usize, n: u32) -> usize
     ensures { λ r. ⌜ r ≤ at + 11 ⌝ }
 {
     if n < 10 {
-        let both = 12320 + 256 * n;
+        let both = BLANK_ZERO + 256 * n;
         return put_two(out, at, both);
     }
     put_after(out, at, BLANK, n as u64)
@@ -581,7 +596,7 @@ fn put_pair(out: &mut [u8], at: usize, n: u32) -> usize
     requires { ⌜ (n < 100) × (at + 2 ≤ length (now out)) ⌝ }
     ensures { λ r. ⌜ Puts (now (out .entry)) (now (out .exit)) at r (pair n) ⌝ }
 {
-    let both = 12336 + n / 10 + 256 * (n % 10);
+    let both = ZEROS + n / 10 + 256 * (n % 10);
     put_two(out, at, both)
 }
 

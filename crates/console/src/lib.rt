@@ -1,5 +1,6 @@
-// The program `rmcalls` between two descriptors. No contract can say what is read and written, so all that can be said is in `calls`, and what
-// this crate adds is tested, not proved: that the bytes read are those run, and that their text is what is written.
+// The program `rmcalls` between two descriptors: reads pieces, runs them, writes their text. No contract can say what is read and written, so all
+// that can be said is in `calls`, and what this crate adds is tested, not proved: that the pieces read, one after another, are those run, and that
+// their text is what is written.
 
 ghost use mathlib.Core.Path.{_≡_};
 ghost use lib.ListN.{length};

@@ -11,14 +11,14 @@ use Rattle.calls.proofs.Printed.{end-refused, end-put}
 use Rattle.calls.proofs.finish.Statement.{statement}
 use Rattle.calls.proofs.finish.Tie as tie
 
-goes-on-requires : tie.Need-goes-on-requires
-goes-on-requires c κs = search needs
+takes-requires : tie.Need-takes-requires
+takes-requires c κs = search needs
 
 returns : tie.Need-returns
-returns c = end-refused _ _ _ (sym (c .before .goes-on .ensures) ∙ not-true _ (c .if1 .taken))
+returns c = end-refused _ _ _ (sym (c .before .takes .ensures) ∙ not-true _ (c .if1 .taken))
 
 put-lines-requires : tie.Need-put-lines-requires
-put-lines-requires c κs = sym (c .before .before .goes-on .ensures) ∙ not-false _ (c .before .if1 .left)
+put-lines-requires c κs = sym (c .before .before .takes .ensures) ∙ not-false _ (c .before .if1 .left)
 
 put-left-requires : tie.Need-put-left-requires
 put-left-requires c κs =
@@ -27,7 +27,7 @@ put-left-requires c κs =
     let q = p .before in
     let entry = q .before .before .before .before .before in
     let room =
-    taken-parts (entry .args .p .records) (entry .args .p .pulses) (length (entry .args .input .now)) (length (entry .args .out .now))
+    taken-parts (entry .args .p .position) (entry .args .p .pulses) (length (entry .args .input .now)) (length (entry .args .out .now))
     (put-lines-requires q (entry .κs)) .2 in
     (omega arith, omega (arith, room, ensured .0 .kept, ensured .1 .0))
 
@@ -39,7 +39,7 @@ put-sum-requires c κs =
     let q = p .before in
     let entry = q .before .before .before .before .before in
     let room =
-    taken-parts (entry .args .p .records) (entry .args .p .pulses) (length (entry .args .input .now)) (length (entry .args .out .now))
+    taken-parts (entry .args .p .position) (entry .args .p .pulses) (length (entry .args .input .now)) (length (entry .args .out .now))
     (put-lines-requires q (entry .κs)) .2 in
     omega (arith, room, ensured .0 .kept, ensured .1 .0, l .put-left .ensures .1, l .put-left .ensures .0 .kept)
 
@@ -69,7 +69,7 @@ pub finish-spec : {M : Type 1} → statement M
 finish-spec =
     tie.close
     (tie.spec
-    goes-on-requires
+    takes-requires
     returns
     put-lines-requires
     put-left-requires

@@ -9,7 +9,7 @@ use Rattle.calls.proofs.put_lines.Tie as tie
 
 abbrev Inv-loop : tie.InvT-loop
 Inv-loop input out₀ count g₀ pulses₀ position₀ end₀ i₀ out g pulses position end i =
-    Running (record { records = position₀; group = g₀; pulses = pulses₀ }) input count out₀ out (record { records = position; group = g; pulses = pulses }) end i
+    Running (record { position = position₀; group = g₀; pulses = pulses₀ }) input count out₀ out (record { position = position; group = g; pulses = pulses }) end i
 
 abbrev μ-loop : tie.MeasureT-loop
 μ-loop input out₀ count g₀ pulses₀ position₀ end₀ i₀ out g pulses position end i = count - i

@@ -9,15 +9,15 @@ use lib.ListN.{length, drop, length-append}
 use lib.Seq.{length-take-le}
 use borrow.Author.Tests.{ltb-true}
 use Rattle.calls.specs.declared.Progress.{Progress}
-use Rattle.calls.specs.declared.Piece.{Piece}
+use Rattle.calls.specs.declared.PieceAnswer.{PieceAnswer}
 use Rattle.calls.specs.Pieces.{linesPrinted, pieceOf, endPrinted}
 use Rattle.console.proofs.pour.Statement.{statement}
 use Rattle.console.proofs.pour.Tie as tie
 
 -- the lines of a piece end where its answer says
-piece-ends : {r : Piece} (p : Progress) (bs out : List ℕ) → r ≡ pieceOf p bs out → r .end ≡ length (linesPrinted p bs out)
+piece-ends : {r : PieceAnswer} (p : Progress) (bs out : List ℕ) → r ≡ pieceOf p bs out → r .end ≡ length (linesPrinted p bs out)
 unfolding pieceOf
-piece-ends p bs out e = ap (λ (x : Piece). x .end) e
+piece-ends p bs out e = ap (λ (x : PieceAnswer). x .end) e
 
 -- the loop: the piece that was read is in its buffer
 record Poured (input text : List ℕ) (size : ℕ) : Type 0 where
