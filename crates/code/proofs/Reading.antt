@@ -25,7 +25,7 @@ use Rattle.distance.specs.Distance.{exchange}
 use Rattle.code.specs.declared.Verdict.the-variants.{Clean, PutRight}
 use Rattle.code.specs.Words.{modulus, weight, wordNumber}
 use Rattle.code.specs.Decoding.{isCodeword, correction, symbolOf}
-use Rattle.code.specs.Calls.{Reading, Correction, noReading, verdictAt, readingAt, decodeChecks, decodeOf, correctedOf}
+use Rattle.code.specs.Calls.{Reading, WordRead, noReading, verdictAt, readingAt, decodeChecks, decodeOf, correctedOf}
 use Rattle.code.specs.Steps.{isWord, syndromeOf, Misread, Exchangeable, exchangedOrder}
 use Rattle.code.proofs.Scanning.{cut}
 use Rattle.code.proofs.Codewords.{codeword-word, cut-coordinates, cells-of, syndrome-of, code-syndrome}
@@ -78,7 +78,7 @@ corrected-word o e = rw e
 
 -- ---- the reading alone
 
-abbrev pub readingTold : Told Correction → Told Reading
+abbrev pub readingTold : Told WordRead → Told Reading
 readingTold t = record { number = t .number; value = t .value .reading }
 
 pub decode-part : (o : Order) → readingTold (correctedOf o) ≡ decodeOf o

@@ -14,7 +14,7 @@ use Rattle.code.specs.declared.TestAnswer.the-variants as test
 use Rattle.code.specs.declared.DecodeAnswer.{DecodeAnswer}
 use Rattle.code.specs.declared.DecodeAnswer.the-variants as decode
 use Rattle.code.specs.declared.CorrectedAnswer.{CorrectedAnswer}
-use Rattle.code.specs.Calls.{Reading, Correction, toldWords, toldTest, toldDecode, toldCorrected}
+use Rattle.code.specs.Calls.{Reading, WordRead, toldWords, toldTest, toldDecode, toldCorrected}
 use Rattle.code.proofs.Reading.{readingTold}
 
 pub told-words : (a b : WordsAnswer) → toldWords a ≡ toldWords b → a ≡ b
@@ -41,4 +41,4 @@ told-decode (decode.Decoded s v) (decode.Decoded r w) e =
 pub told-corrected : (a b : CorrectedAnswer) → toldCorrected a ≡ toldCorrected b → a ≡ b
 told-corrected a b e =
     let answer = told-decode (a .answer) (b .answer) (ap readingTold e) in
-    λ i. record { answer = answer i; word = (ap (λ (t : Told Correction). t .value .word) e) i }
+    λ i. record { answer = answer i; word = (ap (λ (t : Told WordRead). t .value .word) e) i }

@@ -6,7 +6,7 @@
 --   toldDecode                 what an answer says: its number, and the reading
 --   verdictAt k                clean for place 0, else put right at place k
 --   readingAt n u k            what u reads as where the exchange at place k is put right
---   Correction                 a reading, and the codeword found, as an order; the zeros beside a refusal
+--   WordRead                   a reading, and the codeword found, as an order; the zeros beside a refusal
 --   toldCorrected              what an answer says: its number, the reading and the codeword
 --   codewordChecks, decodeChecks                   the checks of these calls: 1, 5, and 1, 4, 7
 --   wordsOf, codewordOf, isCodewordOf, decodeOf    the answers to `words`, `codeword`, `is_codeword` and `decode`
@@ -93,14 +93,14 @@ decodeOf o = answer (decodeChecks o) (readingAt (o .len) (listed o) (correction 
 
 -- ---- the codeword found
 
-pub record Correction : Type 0 where
+pub record WordRead : Type 0 where
   pub reading : Reading
   pub word : Order
 
-abbrev pub toldCorrected : CorrectedAnswer → Told Correction
+abbrev pub toldCorrected : CorrectedAnswer → Told WordRead
 toldCorrected r = record { number = toldDecode (r .answer) .number; value = record { reading = toldDecode (r .answer) .value; word = r .word } }
 
-unfoldable pub correctedOf : Order → Told Correction
+unfoldable pub correctedOf : Order → Told WordRead
 correctedOf o =
     let k = correction (o .len) (listed o) in
     answer (decodeChecks o) (record { reading = readingAt (o .len) (listed o) k; word = orderRecord (exchange k (listed o)) })

@@ -256,7 +256,7 @@ fn syndrome(x: Coordinates) -> usize
     sum % (2 * m + 1)
 }
 
-// The number of the codeword with these coordinates.
+// The number of the codeword with these coordinates. Each arm calls for the table itself, as in `word`.
 fn number(x: Coordinates) -> u32
     requires { ⌜ (isSize (x .len + 1) ≡ true) × (isWord (x .len + 1) (take (x .len) (x .values)) ≡ true) ⌝ }
     ensures { λ s. ⌜ s ≡ wordNumber (x .len + 1) (take (x .len) (x .values)) ⌝ }

@@ -156,7 +156,8 @@ fn wide(x: u8) -> usize
     x as usize
 }
 
-// The order that has the coordinates: cell i + 1 is put in with coordinate i of the cells 1 to i after it.
+// The order that has the coordinates: cell i + 1 is put in with coordinate i of the cells 1 to i after it. The loops are nested for speed: no
+// array is passed from turn to turn.
 fn order_by_insertion(x: Coordinates) -> Order
     requires { ⌜ (x .len ≤ 11) × (inRange (x .len) 1 (x .values) ≡ true) ⌝ }
     ensures { λ r. ⌜ r ≡ orderByCoordinates x ⌝ }

@@ -27,7 +27,7 @@ use Rattle.code.specs.declared.Verdict.the-variants.{Clean}
 use Rattle.code.specs.declared.CorrectedAnswer.{CorrectedAnswer}
 use Rattle.code.specs.Words.{K}
 use Rattle.code.specs.Decoding.{isCodeword, symbolOf}
-use Rattle.code.specs.Calls.{wordOf, Reading, Correction, readingAt, toldDecode, toldCorrected, correctedOf}
+use Rattle.code.specs.Calls.{wordOf, Reading, WordRead, readingAt, toldDecode, toldCorrected, correctedOf}
 use Rattle.code.proofs.Laws.{number-below}
 use Rattle.code.proofs.Codewords.{codeword-word, number-of-codeword}
 use Rattle.code.proofs.Decoding.{exchange-order, corrected}
@@ -128,9 +128,9 @@ module _ (g : Group) (d : numberOf (groupChecks g) ≡ 0) (w : g .written ≡ tr
       word : f .word ≡ orderRecord (wordFound g)
       word =
           let o = orderRecord (sensedOrder g) in
-          let number : correctedOf o .number ≡ 0 = ap (λ (t : Told Correction). t .number) (sym e) ∙ ap (λ (t : Told Reading). t .number) (read-corrected ∙ answered) in
+          let number : correctedOf o .number ≡ 0 = ap (λ (t : Told WordRead). t .number) (sym e) ∙ ap (λ (t : Told Reading). t .number) (read-corrected ∙ answered) in
           let (len, list) = sensed-recorded g d in
-          ap (λ (t : Told Correction). t .value .word) e ∙ corrected-word o number ∙ rw (list, len)
+          ap (λ (t : Told WordRead). t .value .word) e ∙ corrected-word o number ∙ rw (list, len)
 
       pub scrub-found : {t : Told Program} → t ≡ writeOf g (f .word) → scrubbed g t s (some v) ≡ scrubOf g
       scrub-found o = rw (o, word) (rw reading at (scrub-written g accepted-read))

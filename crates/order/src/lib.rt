@@ -9,7 +9,35 @@ ghost use lib.ListN.{length, drop, set};
 ghost use Rattle.order.specs.Refusals.{refusalNumber, outcomeNumber, numberOf, isSize};
 ghost use Rattle.order.specs.Cells.{isOrder, isListing, allZero};
 ghost use Rattle.order.specs.Steps.{isPadded};
-ghost use Rattle.order.specs.Order.{cellNumbers, listed, isOrderOf, orderChecks, pairChecks, noOrder, orderRecord, toldOrder, orderOfCells, rankNumbers, rankChecks, ranksOf, orderByRank, toldRanks, ranksOfOrder, orderOfRanks};
+ghost use Rattle.order.specs.Order.{cellNumbers, listed, isOrderOf, orderChecks, pairChecks, noOrder, orderRecord, toldOrder, orderOfCells, rankNumbers, ranksOf, orderByRank, toldRanks, ranksOfOrder, orderOfRanks};
+
+// From place 12 - n on: the limits of the numbers in the twelve places of an order of n cells.
+const LIMITS: [u8; 24] = [
+    12,
+    12,
+    12,
+    12,
+    12,
+    12,
+    12,
+    12,
+    12,
+    12,
+    12,
+    12,
+    0,
+    0,
+    0,
+    0,
+    0,
+    0,
+    0,
+    0,
+    0,
+    0,
+    0,
+    0,
+];
 
 // A cell's number, from 1.
 pub struct Cell(pub u8);
@@ -138,32 +166,7 @@ fn is_padded(o: Order) -> bool
     requires { ⌜ o .len ≤ 12 ⌝ }
     ensures { λ r. ⌜ r ≡ isPadded (o .len) (cellNumbers o) ⌝ }
 {
-    let limits = [
-        12,
-        12,
-        12,
-        12,
-        12,
-        12,
-        12,
-        12,
-        12,
-        12,
-        12,
-        12,
-        0,
-        0,
-        0,
-        0,
-        0,
-        0,
-        0,
-        0,
-        0,
-        0,
-        0,
-        0,
-    ];
+    let limits = LIMITS;
     let n = o.len;
     let mut padded = true;
     let mut i = 0;
