@@ -1,7 +1,6 @@
 -- `calls::goes_on` meets its contract.
 -- Assumes nothing.
 use borrow.Author.Needs.{needs}
-use Prim.Native.Nat.{_%_}
 use borrow.Author.Tests.{eq-eqb, ne-eqb}
 use Rattle.calls.proofs.goes_on.Statement.{statement}
 use Rattle.calls.proofs.goes_on.Tie as tie
