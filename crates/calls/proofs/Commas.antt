@@ -6,7 +6,7 @@ use native.Mathlib.Omega.{arith}
 use mathlib.Core.List.{List, [], _∷_, _++_, append-assoc, append-nil}
 use lib.ListN.{length, getD, take, drop}
 use lib.Seq.{take-suc, take-all}
-use Rattle.calls.specs.Text.{decimal, after, afterCommas, levelText}
+use Rattle.runs.specs.Text.{decimal, after, afterCommas, levelText}
 use Rattle.calls.specs.Steps.{Puts}
 use Rattle.calls.proofs.Paste.{puts-none, puts-join, puts-as}
 use Rattle.calls.proofs.Decimal.{short}

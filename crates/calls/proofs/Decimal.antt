@@ -9,7 +9,7 @@ use mathlib.Core.List.{List, [], _∷_, _++_, append-assoc}
 use lib.Dec.{T, ltb, leb, leb→le}
 use lib.ListN.{length, length-append}
 use borrow.Author.Tests.{ltb-true, ltb-false, lt-ltb, le-ltb}
-use Rattle.calls.specs.Text.{spelled, decimal}
+use Rattle.runs.specs.Text.{spelled, decimal}
 use Rattle.calls.specs.Steps.{pair}
 
 spelled-digit : (k n : ℕ) → n < 10 → spelled (suc k) n ≡ (48 + n) ∷ []

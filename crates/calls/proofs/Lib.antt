@@ -1,15 +1,5 @@
 pub mod Paste
 pub mod Decimal
-pub mod Bytes
-pub mod Room
-pub mod Follow
-pub mod Course
-pub mod Told
-pub mod Cut
-pub mod Example
 pub mod Printed
 pub mod Running
-pub mod Pulses
-pub mod Pieces
 pub mod Commas
-pub mod Fields

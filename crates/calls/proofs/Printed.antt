@@ -10,12 +10,12 @@ use lib.Dec.{leb}
 use lib.ListN.{length, take, drop, length-take}
 use lib.Seq.{take-all}
 use borrow.Author.Tests.{leb-true, leb-false, le-leb}
-use Rattle.calls.specs.declared.Progress.{Progress}
-use Rattle.calls.specs.declared.PieceAnswer.{PieceAnswer}
-use Rattle.calls.specs.Records.{records}
-use Rattle.calls.specs.Text.{leftLine, sumLine, textOf, taken, printed, allPulses, lines}
-use Rattle.group.specs.Record.{noGroup}
-use Rattle.calls.specs.Pieces.{beginning, progressAfter, linesFrom, textFrom, goesOn, ends, linesPrinted, pieceOf, endPrinted}
+use Rattle.records.specs.Records.{records}
+use Rattle.runs.specs.declared.Progress.{Progress}
+use Rattle.runs.specs.declared.PieceAnswer.{PieceAnswer}
+use Rattle.runs.specs.Text.{leftLine, sumLine, taken, printed}
+use Rattle.runs.specs.Pieces.{beginning, progressAfter, linesFrom, textFrom, goesOn, ends, linesPrinted, pieceOf, endPrinted}
+use Rattle.runs.proofs.Pieces.{text-begun}
 use Rattle.calls.specs.Steps.{pasted, Puts}
 use Rattle.calls.proofs.Paste.{puts-as}
 
@@ -63,12 +63,6 @@ module _ (p : Progress) (bs out : List ℕ) where
     end-put q s w = first-put (text-printed q s) w
 
 -- ---- a whole input
-
--- a run of one piece prints the text of an input
-pub text-begun : (bs : List ℕ) → textFrom beginning bs ≡ textOf bs
-unfolding textFrom textOf
-text-begun bs =
-    ap (λ (k : ℕ). lines 1 noGroup (records bs) ++ leftLine (length bs % 8) ++ sumLine k) (zero-add (allPulses noGroup (records bs)))
 
 module _ (bs : List ℕ) (size : ℕ) (e : size ≡ min 65536 (length bs)) where
   pub part-taken : take size bs ≡ taken bs

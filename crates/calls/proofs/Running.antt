@@ -13,15 +13,15 @@ use borrow.Author.Tests.{leb-true}
 use Rattle.order.specs.Refusals.{Told}
 use Rattle.order.proofs.Cells.{both}
 use Rattle.order.proofs.Tabulate.{length-tabulate, getD-tabulate}
-use Rattle.calls.specs.declared.CallRecord.{CallRecord}
-use Rattle.calls.specs.declared.Answered.{Answered}
-use Rattle.calls.specs.declared.Progress.{Progress}
-use Rattle.calls.specs.Records.{recordAt, records, Answer, toldAnswered, stepOf}
-use Rattle.calls.specs.Text.{lineOf, lines, allPulses, room}
-use Rattle.calls.specs.Pieces.{progressAfter, linesFrom, takes}
+use Rattle.records.specs.declared.CallRecord.{CallRecord}
+use Rattle.records.specs.declared.Answered.{Answered}
+use Rattle.runs.specs.declared.Progress.{Progress}
+use Rattle.records.specs.Records.{recordAt, records, Answer, toldAnswered, stepOf}
+use Rattle.runs.specs.Text.{lineOf, lines, allPulses, room}
+use Rattle.runs.specs.Pieces.{progressAfter, linesFrom, takes}
 use Rattle.calls.specs.Steps.{Puts}
 use Rattle.calls.proofs.Paste.{puts-none, puts-join, puts-as}
-use Rattle.calls.proofs.Follow.{lines-follow, progress-follows}
+use Rattle.runs.proofs.Follow.{lines-follow, progress-follows}
 
 -- what it is that a run takes a piece
 pub taken-parts : (k q size space : ℕ) → takes k q size space ≡ true → (8 * k + size ≤ 65536) × (q ≤ 4294967295 * k) × (room size ≤ space)

@@ -1,32 +1,20 @@
-// The call records of the program `rmcalls` (document 01, "Calls outside the list"): `step`, the answer to one record, with one equation; `run`,
-// a whole input turned into the text that the program prints; `begin`, `go_on` and `finish`, the same in pieces of the input. Each of these has an
-// equation for its answer and, where a buffer is lent, one for the buffer. Proved besides: the printed example (proofs/Example), that a run in
-// pieces prints the text of the whole (proofs/Pieces), and that the records from a group up to the next open are a list of calls of demand 3
-// (proofs/Course).
-use engine::Applied;
-use engine::Kind;
-use engine::ReadAnswer;
-use group::Changed;
+// The text that the program `rmcalls` prints, put into a lent buffer (document 01, "Calls outside the list"): `run`, for a whole input; `go_on` and
+// `finish`, for the pieces of one. Each has an equation for its answer and one for the buffer. Records are answered by `records::step`; where a run
+// stands, and the text, are defined in crate `runs`.
 use group::Group;
-use group::Written;
 use order::Cell;
-use order::Order;
-use order::Outcome;
-use order::Refusal;
+use records::Answered;
+use records::CallRecord;
+use runs::PieceAnswer;
+use runs::Progress;
 ghost use mathlib.Core.Path.{_≡_};
-ghost use mathlib.Core.Bool.{true, _&&_};
+ghost use mathlib.Core.Bool.{true};
 ghost use mathlib.Core.List.{[], _∷_, _++_};
-ghost use Prim.Native.Nat.{_+_, _*_, _/_, _%_, _≤_, _<_, min};
-ghost use lib.Dec.{eqb};
+ghost use Prim.Native.Nat.{_+_, _*_, _/_, _%_, _≤_, _<_};
 ghost use lib.ListN.{length, take, drop};
-ghost use Rattle.order.specs.Refusals.{outcomeNumber};
-ghost use Rattle.order.specs.Order.{noOrder};
-ghost use Rattle.group.specs.Calls.{toldChanged, toldWritten, openOf};
-ghost use Rattle.engine.specs.Calls.{toldRead};
-ghost use Rattle.engine.specs.Machine.{toldApplied, afterProgram, afterChange, afterRead, applyOf};
-ghost use Rattle.calls.specs.Records.{lowFirst, recordAt, records, usesCell, unusedZero, requestOf, toldAnswered, groupAlone, afterApply, afterOpen, stepOf};
-ghost use Rattle.calls.specs.Text.{decimal, after, levelText, numbersOf, lineOf, leftLine, sumLine, printed};
-ghost use Rattle.calls.specs.Pieces.{beginning, progressAfter, linesFrom, takes, pieceOf, linesPrinted, endPrinted};
+ghost use Rattle.records.specs.Records.{lowFirst, recordAt, records, toldAnswered};
+ghost use Rattle.runs.specs.Text.{decimal, after, levelText, numbersOf, lineOf, leftLine, sumLine, printed};
+ghost use Rattle.runs.specs.Pieces.{progressAfter, linesFrom, takes, pieceOf, linesPrinted, endPrinted};
 ghost use Rattle.calls.specs.Steps.{Puts, pair};
 
 const BLANK: u8 = 32;
@@ -42,83 +30,13 @@ const ZEROS: u32 = 48 + 256 * 48;
 
 const BLANK_ZERO: u32 = 32 + 256 * 48;
 
-// The most bytes of an input that are read.
-const MOST: usize = 65536;
-
-// The most pulses that a record's answer can hold.
-const MOST_PULSES: u64 = 4294967295;
-
-// A call record: its two zero bytes are one field.
-pub struct CallRecord {
-    pub kind: u8,
-    pub cell: Cell,
-    pub reserved: u16,
-    pub value: u32,
-}
-
-// What the program keeps of an answer: the verdict and the pushes are in no line.
-pub struct Answered {
-    pub outcome: Outcome,
-    pub group: Group,
-    pub symbol: u32,
-    pub pulses: u32,
-}
-
-// What a record asks for.
-pub enum Request {
-    Bad,
-    Open(u32),
-    Apply(Kind),
-}
-
-// Where a run stands between two pieces of its input: the position of the last record answered, the group that it left, and the pulses of all.
-pub struct Progress {
-    pub position: u32,
-    pub group: Group,
-    pub pulses: u64,
-}
-
-// Where the lines of a piece end, and where the run then stands.
-pub struct PieceAnswer {
-    pub end: usize,
-    pub progress: Progress,
-}
-
-// The answer to a record, for the group that the record before it left. A refused open keeps that group.
-pub fn step(g: Group, r: CallRecord) -> Answered
-    ensures { λ a. ⌜ toldAnswered a ≡ stepOf g r ⌝ }
-{
-    let request = request_of(r);
-    match request {
-        Request::Bad => alone(Outcome::Refused(Refusal::BadRecord), g),
-        Request::Open(n) => open(g, n),
-        Request::Apply(kind) => apply(g, kind),
-    }
-}
-
 // Puts what `rmcalls` prints for an input at the start of out, and answers how many bytes that is. Where out is shorter than
 // 16 bytes for each byte that is read, and 64, it stays as it was, and the answer is 0: a text is never empty.
 pub fn run(input: &[u8], out: &mut [u8]) -> usize
     ensures { λ r. ⌜ r ≡ length (printed (now (input .entry)) (now (out .entry))) ⌝ }
     ensures { λ r. ⌜ now (out .exit) ≡ printed (now (input .entry)) (now (out .entry)) ++ drop r (now (out .entry)) ⌝ }
 {
-    finish(begin(), &input[..size_read(input.len())], out)
-}
-
-// Where a run stands before its first record: the all-zero record is what that one is handed.
-pub fn begin() -> Progress
-    ensures { λ p. ⌜ p ≡ beginning ⌝ }
-{
-    Progress {
-        position: 0,
-        group: Group {
-            n: 0,
-            levels: [0; 12],
-            caps: [0; 12],
-            written: false,
-        },
-        pulses: 0,
-    }
+    finish(runs::begin(), &input[..runs::size_read(input.len())], out)
 }
 
 // Puts the lines of a piece at the start of out, and answers where they end and where the run then stands. A piece that is not of whole records
@@ -128,7 +46,7 @@ pub fn go_on(p: Progress, input: &[u8], out: &mut [u8]) -> PieceAnswer
     ensures { λ r. ⌜ r ≡ pieceOf p (now (input .entry)) (now (out .entry)) ⌝ }
     ensures { λ r. ⌜ now (out .exit) ≡ linesPrinted p (now (input .entry)) (now (out .entry)) ++ drop (r .end) (now (out .entry)) ⌝ }
 {
-    if !goes_on(p.position, p.pulses, input.len(), out.len()) {
+    if !runs::goes_on(p.position, p.pulses, input.len(), out.len()) {
         return PieceAnswer {
             end: 0,
             progress: p,
@@ -144,204 +62,13 @@ pub fn finish(p: Progress, input: &[u8], out: &mut [u8]) -> usize
     ensures { λ r. ⌜ now (out .exit) ≡ endPrinted p (now (input .entry)) (now (out .entry)) ++ drop r (now (out .entry)) ⌝ }
 {
     let size = input.len();
-    if !takes(p.position, p.pulses, size, out.len()) {
+    if !runs::takes(p.position, p.pulses, size, out.len()) {
         return 0;
     }
     let last = put_lines(p, input, out);
     let left = put_left(out, last.end, size % 8);
     let done = last.progress;
     put_sum(out, left, done.pulses)
-}
-
-// Whether a run takes a piece of a size that is not its last.
-fn goes_on(position: u32, pulses: u64, size: usize, space: usize) -> bool
-    ensures { λ b. ⌜ b ≡ (eqb (size % 8) 0 && takes position pulses size space) ⌝ }
-{
-    if size % 8 == 0 {
-        takes(position, pulses, size, space)
-    } else {
-        false
-    }
-}
-
-// Whether a run that stands at a position with so many pulses takes a piece of a size, and its text has room in so many bytes.
-fn takes(position: u32, pulses: u64, size: usize, space: usize) -> bool
-    ensures { λ b. ⌜ b ≡ takes position pulses size space ⌝ }
-{
-    if MOST < size {
-        return false;
-    }
-    if MOST < 8 * position as usize + size {
-        return false;
-    }
-    if pulses > MOST_PULSES * position as u64 {
-        return false;
-    }
-    16 * size + 64 <= space
-}
-
-// How many of the bytes are read.
-fn size_read(size: usize) -> usize
-    ensures { λ r. ⌜ (r ≡ min 65536 size) × (r ≤ size) ⌝ }
-{
-    if MOST < size { MOST } else { size }
-}
-
-fn request_of(r: CallRecord) -> Request
-    ensures { λ q. ⌜ q ≡ requestOf r ⌝ }
-{
-    if !unused_zero(r) {
-        return Request::Bad;
-    }
-    let cell = r.cell;
-    let value = r.value;
-    let kind = r.kind;
-    match kind {
-        0 => Request::Open(value),
-        1 => Request::Apply(Kind::Store(value)),
-        2 => Request::Apply(Kind::Scrub),
-        3 => Request::Apply(Kind::Leak(cell, value)),
-        4 => Request::Apply(Kind::Wear(cell, value)),
-        5 => Request::Apply(Kind::Erase),
-        6 => Request::Apply(Kind::Read),
-        _ => Request::Bad,
-    }
-}
-
-// Whether the fields that a kind does not use are 0. The kinds that have a cell have a value too.
-fn unused_zero(r: CallRecord) -> bool
-    ensures { λ b. ⌜ b ≡ unusedZero r ⌝ }
-{
-    if r.reserved != 0 {
-        return false;
-    }
-    let kind = r.kind;
-    if uses_cell(kind) {
-        return true;
-    }
-    let cell = r.cell;
-    if cell.0 != 0 {
-        return false;
-    }
-    if kind <= 1 {
-        return true;
-    }
-    r.value == 0
-}
-
-fn uses_cell(kind: u8) -> bool
-    ensures { λ b. ⌜ b ≡ usesCell kind ⌝ }
-{
-    if kind == 3 {
-        return true;
-    }
-    kind == 4
-}
-
-// A new group, or the group that there was.
-fn open(g: Group, n: u32) -> Answered
-    ensures { λ a. ⌜ toldAnswered a ≡ afterOpen g (openOf n) ⌝ }
-{
-    let opened = group::open(n as usize);
-    let outcome = opened.outcome;
-    let mut group = g;
-    if let Outcome::Done = outcome {
-        let fresh = opened.group;
-        group = fresh;
-    }
-    alone(outcome, group)
-}
-
-// A call of the machine, by the function that the machine calls for it. No record asks for a write; one without an order is refused.
-fn apply(g: Group, kind: Kind) -> Answered
-    ensures { λ a. ⌜ toldAnswered a ≡ afterApply (applyOf g (record { kind = kind; target = noOrder })) ⌝ }
-{
-    match kind {
-        Kind::Write => from_written(group::write(g, no_order()), 0),
-        Kind::Store(symbol) => from_written(engine::store(g, symbol), symbol),
-        Kind::Scrub => from_scrub(engine::scrub(g)),
-        Kind::Leak(cell, d) => from_changed(group::leak(g, cell, d)),
-        Kind::Wear(cell, cap) => from_changed(group::wear(g, cell, cap)),
-        Kind::Erase => from_changed(group::erase(g)),
-        Kind::Read => from_read(g, engine::read(g)),
-    }
-}
-
-fn no_order() -> Order
-    ensures { λ o. ⌜ o ≡ noOrder ⌝ }
-{
-    Order {
-        len: 0,
-        cells: [Cell(0); 12],
-    }
-}
-
-// An answer with the group and nothing else.
-fn alone(outcome: Outcome, group: Group) -> Answered
-    ensures { λ a. ⌜ toldAnswered a ≡ record { number = outcomeNumber outcome; value = groupAlone group } ⌝ }
-{
-    Answered {
-        outcome,
-        group,
-        symbol: 0,
-        pulses: 0,
-    }
-}
-
-// What is kept of the answer of a write, or of a store of a symbol.
-fn from_written(answer: Written, symbol: u32) -> Answered
-    ensures { λ a. ⌜ toldAnswered a ≡ afterApply (afterProgram (toldWritten answer) symbol) ⌝ }
-{
-    let outcome = answer.outcome;
-    let group = answer.group;
-    let mut told: u32 = 0;
-    if let Outcome::Done = outcome {
-        told = symbol;
-    }
-    Answered {
-        outcome,
-        group,
-        symbol: told,
-        pulses: answer.pulses,
-    }
-}
-
-// What is kept of the answer of a scrub.
-fn from_scrub(answer: Applied) -> Answered
-    ensures { λ a. ⌜ toldAnswered a ≡ afterApply (toldApplied answer) ⌝ }
-{
-    let outcome = answer.outcome;
-    let group = answer.group;
-    Answered {
-        outcome,
-        group,
-        symbol: answer.symbol,
-        pulses: answer.pulses,
-    }
-}
-
-// What is kept of the answer of leak, wear or erase.
-fn from_changed(answer: Changed) -> Answered
-    ensures { λ a. ⌜ toldAnswered a ≡ afterApply (afterChange (toldChanged answer)) ⌝ }
-{
-    let outcome = answer.outcome;
-    let group = answer.group;
-    alone(outcome, group)
-}
-
-// What is kept of the answer of a read of a group, which stays as it is.
-fn from_read(g: Group, answer: ReadAnswer) -> Answered
-    ensures { λ a. ⌜ toldAnswered a ≡ afterApply (afterRead g (toldRead answer)) ⌝ }
-{
-    match answer {
-        ReadAnswer::Refused(refusal) => alone(Outcome::Refused(refusal), g),
-        ReadAnswer::Read { symbol, verdict: _ } => Answered {
-            outcome: Outcome::Done,
-            group: g,
-            symbol,
-            pulses: 0,
-        },
-    }
 }
 
 // Record i of the input, from 0.
@@ -390,7 +117,7 @@ fn put_lines(p: Progress, input: &[u8], out: &mut [u8]) -> PieceAnswer
     let mut i = 0;
     while i < count {
         let r = record_at(input, i);
-        let a = step(g, r);
+        let a = records::step(g, r);
         i += 1;
         position += 1;
         end = put_line(out, end, position, r.kind, a);

@@ -5,11 +5,11 @@ use crate::tally::Tally;
 use crate::tally::none;
 use crate::tally::noted;
 use group::Group;
-use group::Push;
-use group::Written;
 use naive::machine::Answer;
 use order::Cell;
 use order::Order;
+use writing::Push;
+use writing::Written;
 
 // What stands in a place of the list before the call: no push is like it, so a place that is touched shows.
 fn mark() -> Push {

@@ -7,8 +7,6 @@ use crate::tally::none;
 use crate::tally::noted;
 use crate::tally::sum;
 use engine::AlikeAnswer;
-use engine::Call;
-use engine::Kind;
 use group::Group;
 use naive::numbers::add;
 use naive::numbers::byte;
@@ -18,6 +16,8 @@ use naive::orders::OrderFound;
 use naive::words::Reading;
 use order::Cell;
 use order::Order;
+use plain_machine::Call;
+use plain_machine::Kind;
 
 pub fn open(n: usize) -> bool {
     same::changed(group::open(n), naive::machine::open(n))
@@ -39,7 +39,7 @@ fn store(g: Group, symbol: u32, word: OrderFound) -> bool {
 }
 
 fn write(g: Group, target: Order) -> bool {
-    same::written(group::write(g, target), naive::machine::write(g, target))
+    same::written(writing::write(g, target), naive::machine::write(g, target))
 }
 
 fn leak(g: Group, cell: Cell, d: u32) -> bool {
@@ -62,11 +62,14 @@ fn check(g: Group) -> bool {
 }
 
 fn sense(g: Group) -> bool {
-    same::order_answers(group::sense(g), naive::machine::sense(g))
+    same::order_answers(sensing::sense(g), naive::machine::sense(g))
 }
 
 fn apply(g: Group, call: Call) -> bool {
-    same::applied(engine::apply(g, call), naive::machine::apply(g, call))
+    same::applied(
+        plain_machine::apply(g, call),
+        naive::machine::apply(g, call),
+    )
 }
 
 // Two comparisons of what is read in a group.
@@ -136,7 +139,7 @@ pub fn changes(n: usize) -> Tally {
 }
 
 fn after(g: Group, call: Call) -> Group {
-    let a = engine::apply(g, call);
+    let a = plain_machine::apply(g, call);
     a.group
 }
 

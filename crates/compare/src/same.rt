@@ -7,8 +7,6 @@ use engine::Judged;
 use engine::ReadAnswer;
 use group::Changed;
 use group::Group;
-use group::Push;
-use group::Written;
 use naive::machine::Answer;
 use naive::orders::OrderFound;
 use naive::words::Reading;
@@ -17,6 +15,8 @@ use order::OrderAnswer;
 use order::Outcome;
 use order::Ranks;
 use order::Refusal;
+use writing::Push;
+use writing::Written;
 
 // The number of a refusal, by document 01's table.
 pub fn refusal(r: Refusal) -> u8 {

@@ -1,6 +1,4 @@
 // A fixed sample of orders, groups and calls: each is made from numbers that say which one it is, so that nothing has to be kept.
-use engine::Call;
-use engine::Kind;
 use group::Group;
 use naive::numbers::add;
 use naive::numbers::at as cell_at;
@@ -12,6 +10,8 @@ use naive::orders::placed;
 use naive::orders::with_cells;
 use order::Cell;
 use order::Order;
+use plain_machine::Call;
+use plain_machine::Kind;
 
 // The number of orders of n cells.
 const ORDERS: [usize; 13] = [

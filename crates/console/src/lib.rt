@@ -4,7 +4,7 @@
 
 ghost use mathlib.Core.Path.{_≡_};
 ghost use lib.ListN.{length};
-ghost use Rattle.calls.specs.Text.{room};
+ghost use Rattle.runs.specs.Text.{room};
 
 // The most pieces that are read, of 4,096 bytes each: 65,536 bytes.
 const PIECES: u32 = 16;
@@ -14,7 +14,7 @@ const PIECES: u32 = 16;
 pub fn pour(from: i32, to: i32) -> bool {
     let mut input = io::buffer();
     let mut text = text_buffer();
-    let mut p = calls::begin();
+    let mut p = runs::begin();
     let mut size = io::read_full(from, &mut input);
     let mut pieces = 1;
     while size == 4096 && pieces < PIECES {

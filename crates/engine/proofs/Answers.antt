@@ -26,9 +26,10 @@ use Rattle.code.specs.Calls.{wordOf, Reading, noReading, readingAt, codewordChe
 use Rattle.code.proofs.Codewords.{symbol-order}
 use Rattle.group.specs.declared.Group.{Group}
 use Rattle.group.specs.Record.{groupChecks}
-use Rattle.group.specs.Calls.{fits, pushed, unpushed, writeOf, senseOf}
+use Rattle.writing.specs.Calls.{fits, pushed, unpushed, writeOf}
+use Rattle.sensing.specs.Sense.{senseOf}
 use Rattle.group.proofs.Checks.{checked-size}
-use Rattle.group.proofs.Sensed.{sensed-order}
+use Rattle.sensing.proofs.Sensed.{sensed-order}
 use Rattle.engine.specs.declared.ReadAnswer.{ReadAnswer}
 use Rattle.engine.specs.declared.ReadAnswer.the-variants as read
 use Rattle.engine.specs.Calls.{sensedOrder, readChecks, readingOf, toldRead, readOf, storeChecks, storeOf, alikeOf}

@@ -35,10 +35,12 @@ use Rattle.code.proofs.Decoding.{reads, reads-lost}
 use Rattle.code.proofs.Symbols.{symbol-reads}
 use Rattle.group.specs.declared.Group.{Group}
 use Rattle.group.specs.Record.{groupChecks}
-use Rattle.group.specs.Calls.{Program, fits, pushed, unpushed, writeOf}
+use Rattle.writing.specs.Calls.{Program, fits, pushed, unpushed, writeOf}
 use Rattle.group.proofs.Checks.{checked-size}
-use Rattle.group.proofs.Sensed.{sensed-order}
-use Rattle.group.proofs.Groups.{IsGroup, write-accepted, write-group, write-sensed}
+use Rattle.sensing.proofs.Sensed.{sensed-order}
+use Rattle.group.proofs.Groups.{IsGroup}
+use Rattle.writing.proofs.Writes.{write-accepted, write-group}
+use Rattle.sensing.proofs.Written.{write-sensed}
 use Rattle.engine.specs.Calls.{sensedOrder, placeRead, readChecks, readOf, storeOf, alikeOf}
 use Rattle.engine.proofs.Answers.{sense-record, read-number, read-done, read-decoded, word-order, store-written, alike-done}
 

@@ -1,14 +1,5 @@
-pub mod Answers
-pub mod Holds
 pub mod Told
 pub mod Row
-pub mod Bench
-pub mod Climb
-pub mod CostRise
-pub mod WriteRise
-pub mod Machine
-pub mod Demand3
-pub mod Valid
-pub mod Refuted
+pub mod Answers
+pub mod Holds
 pub mod Scrubs
-pub mod Starred

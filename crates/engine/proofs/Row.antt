@@ -6,7 +6,7 @@ use mathlib.Core.Bool.{true}
 use Rattle.order.specs.Refusals.{checkRow, inRow}
 use Rattle.group.specs.declared.Group.{Group}
 use Rattle.engine.specs.Calls.{readChecks, storeChecks}
-use Rattle.engine.specs.Machine.{scrubChecks}
+use Rattle.engine.specs.Scrub.{scrubChecks}
 
 pub read-in-row : (g : Group) → inRow (readChecks g) checkRow ≡ true
 read-in-row g = refl

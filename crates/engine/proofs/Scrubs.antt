@@ -34,14 +34,14 @@ use Rattle.code.proofs.Decoding.{exchange-order, corrected}
 use Rattle.code.proofs.Reading.{readingTold, decode-part, corrected-word}
 use Rattle.group.specs.declared.Group.{Group}
 use Rattle.group.specs.Record.{groupChecks}
-use Rattle.group.specs.Calls.{Program, pushed, unpushed, writeOf}
+use Rattle.writing.specs.Calls.{Program, pushed, unpushed, writeOf}
 use Rattle.group.proofs.Checks.{checked-size}
-use Rattle.group.proofs.Sensed.{sensed-order}
+use Rattle.sensing.proofs.Sensed.{sensed-order}
 use Rattle.group.proofs.Groups.{IsGroup}
 use Rattle.engine.specs.declared.ReadAnswer.{ReadAnswer}
 use Rattle.engine.specs.declared.ReadAnswer.the-variants as read
 use Rattle.engine.specs.Calls.{sensedOrder, placeRead, readChecks, readingOf, toldRead, readOf, storeOf}
-use Rattle.engine.specs.Machine.{Step, quiet, programmedStep, wordFound, scrubChecks, scrubOf, afterRead}
+use Rattle.engine.specs.Scrub.{Step, quiet, programmedStep, wordFound, scrubChecks, scrubOf, afterRead}
 use Rattle.engine.proofs.Answers.{read-number, read-done, read-decoded, sensed-recorded, write-listed, store-written}
 use Rattle.engine.proofs.Holds.{store-reads}
 

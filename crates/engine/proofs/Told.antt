@@ -15,7 +15,7 @@ use Rattle.engine.specs.declared.Judged.{Judged}
 use Rattle.engine.specs.declared.Judged.the-variants.{Nothing, By}
 use Rattle.engine.specs.declared.Applied.{Applied}
 use Rattle.engine.specs.Calls.{toldRead, toldAlike}
-use Rattle.engine.specs.Machine.{Step, judged, toldApplied}
+use Rattle.engine.specs.Scrub.{Step, judged, toldApplied}
 
 pub told-read : (a b : ReadAnswer) → toldRead a ≡ toldRead b → a ≡ b
 told-read (read.Refused a) (read.Refused b) e = ap read.Refused (refusal-by-number a b (ap (λ (t : Told Reading). t .number) e))

@@ -20,8 +20,8 @@ use Rattle.code.specs.Decoding.{correction}
 use Rattle.code.specs.Calls.{wordOf, Reading, noReading, readingAt}
 use Rattle.group.specs.declared.Group.{Group}
 use Rattle.group.specs.Record.{groupChecks}
-use Rattle.group.specs.Sense.{sensed}
-use Rattle.group.specs.Calls.{Program, fits, pushed, unpushed}
+use Rattle.sensing.specs.Sense.{sensed}
+use Rattle.writing.specs.Calls.{Program, fits, pushed, unpushed}
 use Rattle.engine.specs.declared.ReadAnswer.{ReadAnswer}
 use Rattle.engine.specs.declared.ReadAnswer.the-variants as read
 use Rattle.engine.specs.declared.AlikeAnswer.{AlikeAnswer}

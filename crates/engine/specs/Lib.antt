@@ -1,5 +1,2 @@
 pub mod Calls
-pub mod Rise
-pub mod Machine
-pub mod Rivals
-pub mod Starred
+pub mod Scrub

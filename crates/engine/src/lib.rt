@@ -1,25 +1,22 @@
 // The calls that join the one-error code and the group (document 01, "The plain machine", "Calls outside the list"): read, store, scrub and
-// alike, and `apply`, one call of the machine of demand 3. Every public function takes any record and answers it by one equation with a
-// definition of specs/. Proved besides: what is stored is read (proofs/Holds), what is scrubbed is read (proofs/Scrubs), the cost is the rise
-// of the top level (proofs/CostRise), and demand 3 of every list of calls (specs/Rivals, proofs/Demand3).
+// alike. Every public function takes any record and answers it by one equation with a definition of specs/. Proved besides: what is stored is
+// read (proofs/Holds), what is scrubbed is read (proofs/Scrubs).
 use code::DecodeAnswer;
 use code::Verdict;
-use group::Changed;
 use group::Group;
-use group::Push;
-use group::Written;
 use order::Cell;
-use order::Order;
 use order::Outcome;
 use order::Refusal;
+use writing::Push;
+use writing::Written;
 ghost use mathlib.Core.Path.{_≡_};
 ghost use mathlib.Core.Bool.{false};
 ghost use mathlib.Core.Option.{some};
 ghost use Rattle.order.specs.Refusals.{outcomeNumber, ifDone};
 ghost use Rattle.code.specs.Calls.{toldDecode};
-ghost use Rattle.group.specs.Calls.{toldChanged, toldWritten};
+ghost use Rattle.writing.specs.Calls.{toldWritten};
 ghost use Rattle.engine.specs.Calls.{toldRead, readOf, storeOf, toldAlike, alikeOf};
-ghost use Rattle.engine.specs.Machine.{toldApplied, quiet, programmedStep, afterProgram, afterChange, afterRead, scrubOf, applyOf};
+ghost use Rattle.engine.specs.Scrub.{toldApplied, quiet, programmedStep, afterRead, scrubOf};
 
 pub enum ReadAnswer {
     Refused(Refusal),
@@ -29,22 +26,6 @@ pub enum ReadAnswer {
 pub enum AlikeAnswer {
     Refused(Refusal),
     Alike(bool),
-}
-
-// One of the seven calls of demand 3, with its numbers. The order of a write stands beside it in the call.
-pub enum Kind {
-    Write,
-    Store(u32),
-    Scrub,
-    Leak(Cell, u32),
-    Wear(Cell, u32),
-    Erase,
-    Read,
-}
-
-pub struct Call {
-    pub kind: Kind,
-    pub target: Order,
 }
 
 // The verdict of a reading, where there was one.
@@ -68,7 +49,7 @@ pub struct Applied {
 pub fn read(g: Group) -> ReadAnswer
     ensures { λ r. ⌜ toldRead r ≡ readOf g ⌝ }
 {
-    let sensed = group::sense(g);
+    let sensed = sensing::sense(g);
     let outcome = sensed.outcome;
     if let Outcome::Refused(refusal) = outcome {
         return ReadAnswer::Refused(refusal);
@@ -100,12 +81,12 @@ pub fn store(g: Group, symbol: u32) -> Written
     let Outcome::Done = found else {
         let checked = group::check(g);
         let Outcome::Done = checked else {
-            return group::unwritten(checked, g);
+            return writing::unwritten(checked, g);
         };
-        return group::unwritten(found, g);
+        return writing::unwritten(found, g);
     };
     let order = word.order;
-    group::write(g, order)
+    writing::write(g, order)
 }
 
 // Whether two groups hold the same symbol in the same number of cells. The first group's refusals come before the second's.
@@ -151,7 +132,7 @@ fn refused(answer: ReadAnswer) -> AlikeAnswer
 pub fn scrub(g: Group) -> Applied
     ensures { λ r. ⌜ toldApplied r ≡ scrubOf g ⌝ }
 {
-    let sensed = group::sense(g);
+    let sensed = sensing::sense(g);
     let sensing = sensed.outcome;
     let Outcome::Done = sensing else {
         return unchanged(sensing, g);
@@ -168,7 +149,7 @@ pub fn scrub(g: Group) -> Applied
         return from_read(g, answer);
     };
     let word = found.word;
-    rewritten(g, group::write(g, word), symbol, verdict)
+    rewritten(g, writing::write(g, word), symbol, verdict)
 }
 
 // The answer of a scrub that found a codeword, by that of its write.
@@ -195,25 +176,8 @@ fn rewritten(g: Group, written: Written, symbol: u32, verdict: Verdict) -> Appli
     }
 }
 
-// One call of the plain machine.
-pub fn apply(g: Group, call: Call) -> Applied
-    ensures { λ r. ⌜ toldApplied r ≡ applyOf g call ⌝ }
-{
-    let target = call.target;
-    let kind = call.kind;
-    match kind {
-        Kind::Write => from_written(group::write(g, target), 0),
-        Kind::Store(symbol) => from_written(store(g, symbol), symbol),
-        Kind::Scrub => scrub(g),
-        Kind::Leak(cell, d) => from_changed(group::leak(g, cell, d)),
-        Kind::Wear(cell, cap) => from_changed(group::wear(g, cell, cap)),
-        Kind::Erase => from_changed(group::erase(g)),
-        Kind::Read => from_read(g, read(g)),
-    }
-}
-
 // An answer that tells nothing but its outcome and the group.
-fn unchanged(outcome: Outcome, g: Group) -> Applied
+pub fn unchanged(outcome: Outcome, g: Group) -> Applied
     ensures { λ r. ⌜ toldApplied r ≡ record { number = outcomeNumber outcome; value = quiet g } ⌝ }
 {
     Applied {
@@ -230,39 +194,8 @@ fn unchanged(outcome: Outcome, g: Group) -> Applied
     }
 }
 
-// The answer of leak, wear or erase.
-fn from_changed(answer: Changed) -> Applied
-    ensures { λ r. ⌜ toldApplied r ≡ afterChange (toldChanged answer) ⌝ }
-{
-    let outcome = answer.outcome;
-    let group = answer.group;
-    unchanged(outcome, group)
-}
-
-// The answer of a write, or of a store of a symbol.
-fn from_written(answer: Written, symbol: u32) -> Applied
-    ensures { λ r. ⌜ toldApplied r ≡ afterProgram (toldWritten answer) symbol ⌝ }
-{
-    let outcome = answer.outcome;
-    let group = answer.group;
-    let pushes = answer.pushes;
-    let mut told: u32 = 0;
-    if let Outcome::Done = outcome {
-        told = symbol;
-    }
-    Applied {
-        outcome,
-        group,
-        symbol: told,
-        verdict: Judged::Nothing,
-        pulses: answer.pulses,
-        count: answer.count,
-        pushes,
-    }
-}
-
 // The answer of a read of a group, which stays as it is.
-fn from_read(g: Group, answer: ReadAnswer) -> Applied
+pub fn from_read(g: Group, answer: ReadAnswer) -> Applied
     ensures { λ r. ⌜ toldApplied r ≡ afterRead g (toldRead answer) ⌝ }
 {
     match answer {

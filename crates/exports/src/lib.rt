@@ -1,13 +1,13 @@
 // The engine for programs in C and Rust (`rt staticlib exports`): the interpreter of call records, the room that its text needs, and the
-// number of codewords. Each function takes anything, and equations with the definitions of `calls` and `code` determine what it answers and
-// leaves. Proved besides: a buffer of the length that `rm_room` answers takes the whole text (calls, proofs/Room).
+// number of codewords. Each function takes anything, and equations with the definitions of `runs` and `code` determine what it answers and
+// leaves. Proved besides: a buffer of the length that `rm_room` answers takes the whole text (runs, proofs/Room).
 use code::WordsAnswer;
 ghost use mathlib.Core.Path.{_≡_};
 ghost use mathlib.Core.List.{_++_};
 ghost use Prim.Native.Nat.{min};
 ghost use lib.ListN.{length, drop};
 ghost use Rattle.code.specs.Calls.{wordsOf};
-ghost use Rattle.calls.specs.Text.{room, printed};
+ghost use Rattle.runs.specs.Text.{room, printed};
 
 // The most bytes of an input that are read.
 const MOST: usize = 65536;

@@ -1,26 +1,21 @@
 -- The checks of a record and of a call on one cell: which number they give, and what a call that passes them knows.
 -- Assumes nothing.
 use Prim.Native.Nat.{ℕ, _-_, _≤_, _<_}
-use mathlib.Core.Path.{_≡_, ap, _∙_}
+use mathlib.Core.Path.{_≡_}
 use mathlib.Core.Bool.{true}
 use mathlib.Core.List.{[]}
 use native.Mathlib.Omega.{arith}
 use lib.Dec.{leb}
 use borrow.Author.Tests.{leb-true}
 use Rattle.order.specs.declared.Cell.{Cell}
-use Rattle.order.specs.declared.Order.{Order}
 use Rattle.order.specs.declared.Refusal.the-variants.{NoCell}
 use Rattle.order.specs.Refusals.{numberOf}
-use Rattle.order.specs.Cells.{isCell, isOrder}
-use Rattle.order.specs.Order.{cellNumbers, listed, isOrderOf}
+use Rattle.order.specs.Cells.{isCell}
 use Rattle.order.proofs.Cells.{both}
 use Rattle.order.proofs.Refusals.{all-held, check-held, sized-done}
-use Rattle.order.proofs.Pairs.{listing-length}
-use Rattle.order.proofs.Check.{listing-parts}
 use Rattle.group.specs.declared.Group.{Group}
-use Rattle.group.specs.Record.{allAtMost, isRow, groupChecks}
+use Rattle.group.specs.Record.{isRow, groupChecks}
 use Rattle.group.specs.Calls.{cellChecks}
-use Rattle.group.proofs.Rows.{row-true}
 
 -- ---- what a group tells
 
@@ -46,11 +41,3 @@ checked-cell g c d =
     let t = all-held _ (groupChecks g) d in
     let range = cell-true (g .n) (c .0) (check-held (isCell (g .n) (c .0)) NoCell [] (t .1) .0) in
     (range .0, omega (arith, range .1, checked-size g (t .0)))
-
--- an order that is handed in for a group, and the group's levels, can be raised
-pub checked-target : (g : Group) (o : Order) → numberOf (groupChecks g) ≡ 0 → isOrderOf (g .n) o ≡ true
-    → (isOrder (o .len) (listed o) ≡ true) × (o .len ≤ 12) × (allAtMost 4095 (g .levels) ≡ true)
-checked-target g o d e =
-    let n = listing-length (cellNumbers o) (o .len) (g .n) e in
-    let t = listing-parts (cellNumbers o) (o .len) (g .n) e in
-    (ap (λ (k : ℕ). isOrder k (listed o)) n ∙ t .0, omega (arith, checked-size g d), row-true (g .n) (g .levels) (checked-levels g d))

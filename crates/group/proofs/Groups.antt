@@ -1,7 +1,7 @@
--- A group stays a group under every call, and a reading after an accepted write finds the order that was written.
+-- A group stays a group under open, leak, wear and erase.
 -- Assumes nothing.
 use Prim.Native.Nat.{ℕ, zero, suc, _-_, _≤_}
-use mathlib.Core.Path.{_≡_, refl, sym, ap, _∙_}
+use mathlib.Core.Path.{_≡_, refl, _∙_}
 use mathlib.Core.Bool.{Bool, true, _&&_}
 use mathlib.Core.List.{List, [], _∷_, _++_}
 use native.Mathlib.Omega.{arith}
@@ -9,27 +9,17 @@ use lib.Dec.{leb}
 use lib.ListN.{length, replicate, length-append, length-replicate}
 use borrow.Author.Tests.{leb-true}
 use Rattle.order.specs.declared.Cell.{Cell}
-use Rattle.order.specs.declared.Order.{Order}
 use Rattle.order.specs.declared.Refusal.{Refusal}
-use Rattle.order.specs.declared.Refusal.the-variants.{Size, NoGroup, NoOrder, Worn, CapUp}
+use Rattle.order.specs.declared.Refusal.the-variants.{Size, NoGroup, CapUp}
 use Rattle.order.specs.Refusals.{numberOf, ifDone, answer, isSize}
-use Rattle.order.specs.Order.{cellNumbers, listed, isOrderOf, orderRecord}
-use Rattle.order.proofs.Pairs.{listing-length}
-use Rattle.order.proofs.Refusals.{check-held, sized-holds, size-true, told-done, all-held}
-use Rattle.order.proofs.Check.{listing-parts}
-use Rattle.order.proofs.Records.{record-back}
+use Rattle.order.proofs.Refusals.{check-held, sized-holds, size-true, all-held}
 use Rattle.group.specs.declared.Group.{Group}
 use Rattle.group.specs.Levels.{level, AtMost}
-use Rattle.group.specs.Record.{isRow, groupChecks, opened, noGroup, programmed}
-use Rattle.group.specs.PushUp.{singles, Shows, raise}
-use Rattle.group.specs.Sense.{sensed}
-use Rattle.group.specs.Calls.{Program, cellChecks, raised, fits, pushed, unpushed, openOf, leakOf, wearOf, eraseOf, writeOf, senseOf}
-use Rattle.group.proofs.Levels.{at-most-refl, at-most-trans, at-most-length, at-most-true, true-at-most, put-below, leaked-below}
-use Rattle.group.proofs.Raise.{raise-least}
+use Rattle.group.specs.Record.{isRow, groupChecks, opened, noGroup}
+use Rattle.group.specs.Calls.{cellChecks, openOf, leakOf, wearOf, eraseOf}
+use Rattle.group.proofs.Levels.{at-most-refl, at-most-length, put-below, leaked-below}
 use Rattle.group.proofs.Rows.{row-below, zeros-row, caps-row}
 use Rattle.group.proofs.Checks.{checked-size, checked-levels, checked-caps}
-use Rattle.group.proofs.Orders.{order-shows}
-use Rattle.group.proofs.Sensed.{sensed-back}
 
 -- a record that passes the checks, with rows of twelve
 pub record IsGroup (g : Group) : Type 0 where
@@ -40,7 +30,7 @@ pub record IsGroup (g : Group) : Type 0 where
 -- ---- answers
 
 -- what holds of the result where the call is accepted, and of what a refusal gives back, holds of the answer's value
-told-value : {A : Type 0} (P : A → Type 0) (checks : List (Bool × Refusal)) (result zeros : A) → (numberOf checks ≡ 0 → P result) → P zeros
+pub told-value : {A : Type 0} (P : A → Type 0) (checks : List (Bool × Refusal)) (result zeros : A) → (numberOf checks ≡ 0 → P result) → P zeros
     → P (answer checks result zeros .value)
 unfolding answer
 told-value P checks result zeros p q = go (numberOf checks) refl
@@ -49,7 +39,7 @@ told-value P checks result zeros p q = go (numberOf checks) refl
     go zero e = p e
     go (suc k) e = q
 
-told-accepted : {A : Type 0} (checks : List (Bool × Refusal)) (result zeros : A) → answer checks result zeros .number ≡ 0
+pub told-accepted : {A : Type 0} (checks : List (Bool × Refusal)) (result zeros : A) → answer checks result zeros .number ≡ 0
     → (numberOf checks ≡ 0) × (answer checks result zeros .value ≡ result)
 unfolding answer
 told-accepted checks result zeros e = (e, rw e)
@@ -62,7 +52,7 @@ group-of n ls ks w l h p q a b = record { passes = sized-holds n (isRow n ls && 
 
 module _ (g : Group) (h : IsGroup g) where
   -- good levels, and caps nowhere above the old ones
-  group-with : (ls ks : List ℕ) (w : Bool) → isRow (g .n) ls ≡ true → length ls ≡ 12 → AtMost ks (g .caps)
+  pub group-with : (ls ks : List ℕ) (w : Bool) → isRow (g .n) ls ≡ true → length ls ≡ 12 → AtMost ks (g .caps)
       → IsGroup (record { n = g .n; levels = ls; caps = ks; written = w })
   group-with ls ks w r l p =
       let s = checked-size g (h .passes) in
@@ -98,46 +88,3 @@ pub erase-group : (g : Group) → IsGroup g → IsGroup (eraseOf g .value)
 unfolding eraseOf
 erase-group g h =
     told-value IsGroup (groupChecks g) _ g (λ e. group-with g h (replicate 12 0) (g .caps) _ (zeros-row (g .n)) refl (at-most-refl (g .caps))) h
-
--- ---- a write
-
--- what an accepted write knows: its group, its order, and that no new level is above its cap; and what it leaves
-pub write-accepted : (g : Group) (o : Order) → writeOf g o .number ≡ 0
-    → (numberOf (groupChecks g) ≡ 0) × (isOrderOf (g .n) o ≡ true) × (fits g (listed o) ≡ true) × (writeOf g o .value ≡ pushed g (listed o))
-unfolding writeOf
-write-accepted g o e =
-    let t = told-accepted _ (pushed g (listed o)) (unpushed g) e in
-    let s = all-held _ (groupChecks g) (t .0) in
-    let p = check-held (isOrderOf (g .n) o) NoOrder _ (s .1) in
-    (s .0, p .0, check-held (fits g (listed o)) Worn [] (p .1) .0, t .1)
-
-pub write-group : (g : Group) (o : Order) → IsGroup g → IsGroup (writeOf g o .value .group)
-unfolding writeOf pushed raised fits
-write-group g o h =
-    let new = raise 1 (singles (listed o)) (g .levels) in
-    told-value (λ (p : Program). IsGroup (p .group)) (groupChecks g ++ (isOrderOf (g .n) o, NoOrder) ∷ (fits g (listed o), Worn) ∷ [])
-    (pushed g (listed o)) (unpushed g)
-    (λ e.
-    let p = check-held (isOrderOf (g .n) o) NoOrder _ (all-held _ (groupChecks g) e .1) in
-    let low = at-most-true new (g .caps) (check-held (fits g (listed o)) Worn [] (p .1) .0) in
-    group-with g h new (g .caps) true (row-below (g .n) low (checked-caps g (h .passes))) (at-most-length low ∙ h .caps) (at-most-refl (g .caps))) h
-
--- no new level is above its cap where some levels, none lower than the old ones, show the order within the caps
-pub fits-where : (g : Group) (xs ms : List ℕ) → AtMost (g .levels) ms → Shows 1 (singles xs) ms → AtMost ms (g .caps) → fits g xs ≡ true
-unfolding fits raised
-fits-where g xs ms p s q = true-at-most (at-most-trans (raise-least 1 (singles xs) p s) q)
-
--- a reading after an accepted write finds the order that was written
-pub write-sensed : (g : Group) (o : Order) → IsGroup g → length (o .cells) ≡ 12 → writeOf g o .number ≡ 0
-    → senseOf (writeOf g o .value .group) ≡ record { number = 0; value = o }
-unfolding senseOf pushed raised
-write-sensed g o h w e =
-    let t = write-accepted g o e in
-    let after : IsGroup (programmed g (raised g (listed o))) = rw (t .3) at (write-group g o h) in
-    let n = listing-length (cellNumbers o) (o .len) (g .n) (t .1) in
-    let parts = listing-parts (cellNumbers o) (o .len) (g .n) (t .1) in
-    let size = checked-size g (h .passes) in
-    let shows = order-shows (g .n) (listed o) (g .levels) (parts .0) (omega (arith, h .levels)) in
-    let back : sensed (g .n) (raised g (listed o)) ≡ listed o = sensed-back (g .n) (listed o) (raised g (listed o)) (parts .0) shows in
-    let same : orderRecord (listed o) ≡ o = record-back o (sized-holds (o .len) (isOrderOf (o .len) o) NoOrder (omega arith) (omega arith) (ap (λ (k : ℕ). isOrderOf k o) n ∙ t .1)) w in
-    rw (t .3) (sym (told-done _ _ _ (after .passes)) ∙ ap (λ (x : Order). record { number = 0; value = x }) (ap orderRecord back ∙ same))

@@ -1,11 +1,6 @@
 pub mod Levels
-pub mod Raise
 pub mod Rows
 pub mod Checks
-pub mod Orders
-pub mod Raising
-pub mod Sensed
-pub mod Settling
 pub mod Groups
 pub mod Told
 pub mod Row

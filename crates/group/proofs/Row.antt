@@ -4,16 +4,12 @@ use Prim.Native.Nat.{ℕ}
 use mathlib.Core.Path.{_≡_, refl}
 use mathlib.Core.Bool.{true}
 use Rattle.order.specs.declared.Cell.{Cell}
-use Rattle.order.specs.declared.Order.{Order}
 use Rattle.order.specs.Refusals.{checkRow, inRow}
 use Rattle.group.specs.declared.Group.{Group}
-use Rattle.group.specs.Calls.{cellChecks, wearChecks, writeChecks}
+use Rattle.group.specs.Calls.{cellChecks, wearChecks}
 
 pub leak-in-row : (g : Group) (c : Cell) → inRow (cellChecks g c) checkRow ≡ true
 leak-in-row g c = refl
 
 pub wear-in-row : (g : Group) (c : Cell) (cap : ℕ) → inRow (wearChecks g c cap) checkRow ≡ true
 wear-in-row g c cap = refl
-
-pub write-in-row : (g : Group) (o : Order) → inRow (writeChecks g o) checkRow ≡ true
-write-in-row g o = refl

@@ -5,21 +5,9 @@ use Rattle.order.specs.Refusals.{Told}
 use Rattle.order.proofs.Refusals.{outcome-by-number}
 use Rattle.group.specs.declared.Group.{Group}
 use Rattle.group.specs.declared.Changed.{Changed}
-use Rattle.group.specs.declared.Written.{Written}
-use Rattle.group.specs.Calls.{Program, toldChanged, toldWritten}
+use Rattle.group.specs.Calls.{toldChanged}
 
 pub told-changed : (a b : Changed) → toldChanged a ≡ toldChanged b → a ≡ b
 told-changed a b e =
     let o = outcome-by-number (a .outcome) (b .outcome) (ap (λ (t : Told Group). t .number) e) in
     λ i. record { outcome = o i; group = (ap (λ (t : Told Group). t .value) e) i }
-
-pub told-written : (a b : Written) → toldWritten a ≡ toldWritten b → a ≡ b
-told-written a b e =
-    let o = outcome-by-number (a .outcome) (b .outcome) (ap (λ (t : Told Program). t .number) e) in
-    λ i. record {
-      outcome = o i;
-      group = (ap (λ (t : Told Program). t .value .group) e) i;
-      pulses = (ap (λ (t : Told Program). t .value .pulses) e) i;
-      count = (ap (λ (t : Told Program). t .value .count) e) i;
-      pushes = (ap (λ (t : Told Program). t .value .pushes) e) i;
-    }

@@ -16,11 +16,11 @@ use Rattle.order.specs.Order.{cellNumbers, listed, isOrderOf}
 use Rattle.order.proofs.Refusals.{check-held, all-held}
 use Rattle.order.proofs.Pairs.{listing-length}
 use Rattle.group.specs.declared.Group.{Group}
-use Rattle.group.specs.declared.Push.{Push}
+use Rattle.writing.specs.declared.Push.{Push}
 use Rattle.group.specs.Record.{groupChecks}
-use Rattle.group.specs.Calls.{Program, pushed, writeOf}
+use Rattle.writing.specs.Calls.{Program, pushed, writeOf}
 use Rattle.group.proofs.Checks.{checked-size}
-use Rattle.group.proofs.Raising.{few-pushes}
+use Rattle.writing.proofs.Raising.{few-pushes}
 use Rattle.push_list.specs.Calls.{intoChecks, Carried, carried, writeIntoOf, filled, listAfter}
 use Rattle.push_list.specs.Steps.{planOf}
 

@@ -22,9 +22,9 @@ use denote.Slice.{finally, res-finally, heres, codedHoleys}
 use denote.Signature.{Slot, plain}
 use denote.Signature.Array.{arrayOf}
 use denote.Struct.Laws as LL
-use Rattle.group.specs.declared.Push.{Push}
-use Rattle.group.proofs.Push as P
-use Rattle.group.proofs.Push.Laws as P′
+use Rattle.writing.specs.declared.Push.{Push}
+use Rattle.writing.proofs.Push as P
+use Rattle.writing.proofs.Push.Laws as P′
 
 abbrev pub R : RattleType
 R = P.the-row

@@ -4,7 +4,7 @@ use mathlib.Core.Path.{_≡_, ap}
 use mathlib.Core.List.{List}
 use Rattle.order.specs.Refusals.{Told}
 use Rattle.order.proofs.Refusals.{outcome-by-number}
-use Rattle.group.specs.declared.Push.{Push}
+use Rattle.writing.specs.declared.Push.{Push}
 use Rattle.push_list.specs.declared.WrittenInto.{WrittenInto}
 use Rattle.push_list.specs.declared.Lent.{Lent}
 use Rattle.push_list.specs.Calls.{Carried, toldInto, toldLent}

@@ -12,10 +12,10 @@ use Rattle.order.specs.Refusals.{numberOf, Told, answer}
 use Rattle.order.specs.Order.{listed}
 use Rattle.order.proofs.Refusals.{later-decide, check-fails, told-refused}
 use Rattle.group.specs.declared.Group.{Group}
-use Rattle.group.specs.declared.Push.{Push}
+use Rattle.writing.specs.declared.Push.{Push}
 use Rattle.group.specs.Record.{groupChecks}
-use Rattle.group.specs.PushUp.{singles, pushes}
-use Rattle.group.specs.Calls.{Program, pushed, unpushed, writeOf}
+use Rattle.writing.specs.PushUp.{singles, pushes}
+use Rattle.writing.specs.Calls.{Program, pushed, unpushed, writeOf}
 use Rattle.push_list.specs.Calls.{intoChecks, carried, writeIntoOf, filled, listAfter}
 use Rattle.push_list.proofs.Plans.{either, answerOf, filledBy, plan-answer, plan-list, plan-written}
 

@@ -20,9 +20,9 @@ use Rattle.order.specs.declared.Refusal.the-variants.{ListShort, NoOrder, Worn}
 use Rattle.order.specs.Refusals.{outcomeNumber, numberOf, ifDone, Told, answer}
 use Rattle.order.specs.Order.{listed, isOrderOf}
 use Rattle.group.specs.declared.Group.{Group}
-use Rattle.group.specs.declared.Push.{Push}
+use Rattle.writing.specs.declared.Push.{Push}
 use Rattle.group.specs.Record.{groupChecks}
-use Rattle.group.specs.Calls.{Program, fits, pushed, unpushed}
+use Rattle.writing.specs.Calls.{Program, fits, pushed, unpushed}
 use Rattle.push_list.specs.declared.WrittenInto.{WrittenInto}
 use Rattle.push_list.specs.declared.Lent.{Lent}
 

@@ -7,7 +7,7 @@ use Rattle.order.specs.declared.Order.{Order}
 use Rattle.order.specs.Refusals.{outcomeNumber, Told, answer}
 use Rattle.order.specs.Order.{listed}
 use Rattle.group.specs.declared.Group.{Group}
-use Rattle.group.specs.Calls.{Program, pushed, unpushed}
+use Rattle.writing.specs.Calls.{Program, pushed, unpushed}
 use Rattle.push_list.specs.declared.Plan.{Plan}
 use Rattle.push_list.specs.Calls.{intoChecks}
 

@@ -1,17 +1,17 @@
 // The lent list of pushes (document 01: "The call that fills a lent list of pushes writes the pushes first and leaves the later places
 // untouched"). What is written there is decided by value, in `decide`; only `fill`, `write_into` and `lend` have a slice of pushes, and
 // these three are proved by hand. Each public function takes any record; equations fix its answer and its list. Proved
-// besides: with room enough the answer is that of `group::write`, and the list starts with its pushes (proofs/Written).
+// besides: with room enough the answer is that of `writing::write`, and the list starts with its pushes (proofs/Written).
 use group::Group;
-use group::Push;
-use group::Written;
 use order::Order;
 use order::Outcome;
 use order::Refusal;
+use writing::Push;
+use writing::Written;
 ghost use mathlib.Core.Path.{_≡_};
 ghost use Prim.Native.Nat.{_≤_, min};
 ghost use lib.ListN.{length};
-ghost use Rattle.group.specs.Calls.{toldWritten};
+ghost use Rattle.writing.specs.Calls.{toldWritten};
 ghost use Rattle.push_list.specs.Calls.{filled, toldInto, writeIntoOf, listAfter, toldLent, lendOf};
 ghost use Rattle.push_list.specs.Steps.{toldPlan, planOf};
 
@@ -52,12 +52,12 @@ fn decide(g: Group, target: Order, room: usize) -> Plan
 {
     let checked = group::check(g);
     let Outcome::Done = checked else {
-        return plan_of(group::unwritten(checked, g));
+        return plan_of(writing::unwritten(checked, g));
     };
     if room < g.n - 1 {
-        return plan_of(group::unwritten(Outcome::Refused(Refusal::ListShort), g));
+        return plan_of(writing::unwritten(Outcome::Refused(Refusal::ListShort), g));
     }
-    plan_of(group::write(g, target))
+    plan_of(writing::write(g, target))
 }
 
 // The answer of a write, with its pushes beside it.

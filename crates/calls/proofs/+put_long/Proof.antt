@@ -6,7 +6,7 @@ use Prim.Native.Nat.{ℕ, _/_, _<_}
 use native.Mathlib.Omega.{arith}
 use borrow.Fn.Kinds.{In, Out}
 use borrow.Fn.PlainCycle.{Measures, is, falls, and}
-use Rattle.calls.specs.Text.{decimal}
+use Rattle.runs.specs.Text.{decimal}
 use Rattle.calls.specs.Steps.{Puts}
 use Rattle.calls.proofs.Paste.{puts-join, puts-as}
 use Rattle.calls.proofs.Decimal.{decimal-last-four, last-four-length}

@@ -7,7 +7,7 @@ use lib.Dec.{eqb}
 use lib.ListN.{length}
 use borrow.Author.Tests.{not-true, not-false}
 use Rattle.order.proofs.Cells.{both}
-use Rattle.calls.specs.Pieces.{ends}
+use Rattle.runs.specs.Pieces.{ends}
 use Rattle.calls.proofs.Printed.{piece-refused, piece-put}
 use Rattle.calls.proofs.go_on.Statement.{statement}
 use Rattle.calls.proofs.go_on.Tie as tie

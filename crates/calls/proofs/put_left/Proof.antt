@@ -5,7 +5,7 @@ use mathlib.Core.Path.{_≡_, refl}
 use Prim.Native.Nat.{ℕ, zero, suc}
 use native.Mathlib.Omega.{arith}
 use mathlib.Core.List.{[], _∷_, _++_}
-use Rattle.calls.specs.Text.{after, leftLine}
+use Rattle.runs.specs.Text.{after, leftLine}
 use Rattle.calls.proofs.Paste.{puts-none, puts-join, puts-as}
 use Rattle.calls.proofs.Decimal.{short}
 use Rattle.calls.proofs.put_left.Statement.{statement}

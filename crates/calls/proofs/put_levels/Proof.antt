@@ -6,7 +6,7 @@ use Prim.Native.Nat.{_-_, _+_, _≤_, _<_}
 use lib.ListN.{length, take}
 use borrow.Author.Tests.{ltb-true, ltb-false}
 use native.Mathlib.Omega.{arith}
-use Rattle.calls.specs.Text.{levelText}
+use Rattle.runs.specs.Text.{levelText}
 use Rattle.calls.specs.Steps.{Puts}
 use Rattle.calls.proofs.Decimal.{short}
 use Rattle.calls.proofs.Commas.{Joining, joining-starts, joining-room, joining-steps, joining-ends, all-reached, twelve-reached}

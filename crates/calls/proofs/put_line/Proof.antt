@@ -6,9 +6,9 @@ use Prim.Native.Nat.{ℕ}
 use native.Mathlib.Omega.{arith}
 use mathlib.Core.List.{List, [], _∷_, _++_, append-assoc}
 use lib.ListN.{take}
-use Rattle.calls.specs.declared.Answered.{Answered}
-use Rattle.calls.specs.Records.{toldAnswered}
-use Rattle.calls.specs.Text.{levelText, numbersOf, lineOf}
+use Rattle.records.specs.declared.Answered.{Answered}
+use Rattle.records.specs.Records.{toldAnswered}
+use Rattle.runs.specs.Text.{levelText, numbersOf, lineOf}
 use Rattle.calls.proofs.Paste.{puts-join, puts-as}
 use Rattle.calls.proofs.put_line.Statement.{statement}
 use Rattle.calls.proofs.put_line.Tie as tie

@@ -2,7 +2,7 @@
 -- Assumes nothing.
 use Prim.Native.Nat.{_^_}
 use native.Mathlib.Omega.{arith}
-use Rattle.calls.specs.Text.{numbersOf}
+use Rattle.runs.specs.Text.{numbersOf}
 use Rattle.calls.proofs.Paste.{puts-join}
 use Rattle.calls.proofs.Decimal.{short}
 use Rattle.calls.proofs.put_numbers.Statement.{statement}

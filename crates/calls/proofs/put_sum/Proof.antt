@@ -3,7 +3,7 @@
 use borrow.Author.Needs.{needs}
 use Prim.Native.Nat.{_^_}
 use native.Mathlib.Omega.{arith}
-use Rattle.calls.specs.Text.{sumLine}
+use Rattle.runs.specs.Text.{sumLine}
 use Rattle.calls.proofs.Paste.{puts-join}
 use Rattle.calls.proofs.Decimal.{short}
 use Rattle.calls.proofs.put_sum.Statement.{statement}

@@ -1,7 +1,7 @@
 -- `calls::record_at` meets its contract.
 -- Assumes nothing.
 use borrow.Author.Needs.{needs}
-use Rattle.calls.proofs.Bytes.{from-pairs}
+use Rattle.records.proofs.Bytes.{from-pairs}
 use Rattle.calls.proofs.record_at.Statement.{statement}
 use Rattle.calls.proofs.record_at.Tie as tie
 

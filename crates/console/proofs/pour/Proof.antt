@@ -8,9 +8,9 @@ use mathlib.Core.List.{List}
 use lib.ListN.{length, drop, length-append}
 use lib.Seq.{length-take-le}
 use borrow.Author.Tests.{ltb-true}
-use Rattle.calls.specs.declared.Progress.{Progress}
-use Rattle.calls.specs.declared.PieceAnswer.{PieceAnswer}
-use Rattle.calls.specs.Pieces.{linesPrinted, pieceOf, endPrinted}
+use Rattle.runs.specs.declared.Progress.{Progress}
+use Rattle.runs.specs.declared.PieceAnswer.{PieceAnswer}
+use Rattle.runs.specs.Pieces.{linesPrinted, pieceOf, endPrinted}
 use Rattle.console.proofs.pour.Statement.{statement}
 use Rattle.console.proofs.pour.Tie as tie
 

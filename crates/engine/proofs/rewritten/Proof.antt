@@ -3,7 +3,7 @@
 use borrow.Author.Needs.{needs}
 use mathlib.Core.Path.{_∙_}
 use Rattle.order.proofs.Refusals.{refused-zeros}
-use Rattle.engine.specs.Machine.{Step}
+use Rattle.engine.specs.Scrub.{Step}
 use Rattle.engine.proofs.rewritten.Statement.{statement}
 use Rattle.engine.proofs.rewritten.Tie as tie
 

@@ -52,11 +52,11 @@ use Rattle.order.specs.declared.Order.{Order}
 use Rattle.order.proofs.Order as Order′
 use Rattle.order.proofs.Order.Laws as Order″
 use Rattle.group.specs.declared.Group.{Group}
-use Rattle.group.specs.declared.Push.{Push}
+use Rattle.writing.specs.declared.Push.{Push}
 use Rattle.group.proofs.Group as Group′
 use Rattle.group.proofs.Group.Laws as Group″
-use Rattle.group.proofs.Push as Push′
-use Rattle.group.proofs.Push.Laws as Push″
+use Rattle.writing.proofs.Push as Push′
+use Rattle.writing.proofs.Push.Laws as Push″
 use Rattle.push_list.specs.declared.WrittenInto.{WrittenInto}
 use Rattle.push_list.specs.declared.Lent.{Lent}
 use Rattle.push_list.specs.Calls.{toldInto, writeIntoOf, listAfter, toldLent, lendOf}

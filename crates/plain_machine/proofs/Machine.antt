@@ -1,0 +1,222 @@
+-- The seven calls as one answer each: its checks, what it carries where all of them hold, when worn is given, and that the pulses that an
+-- answer carries are the sum of the rises.
+-- Assumes nothing.
+use Prim.Native.Nat.{ℕ, zero, suc}
+use mathlib.Core.Path.{_≡_, refl, sym, ap, _∙_}
+use mathlib.Core.Bool.{Bool, true, false, false≢true, cond, _&&_}
+use mathlib.Core.List.{List, [], _∷_, _++_}
+use mathlib.Core.Option.{none}
+use native.Mathlib.Omega.{arith}
+use lib.ListN.{replicate}
+use Rattle.order.specs.declared.Order.{Order}
+use Rattle.order.specs.declared.Refusal.{Refusal}
+use Rattle.order.specs.declared.Refusal.the-variants.{NoGroup, NoOrder, Worn}
+use Rattle.order.specs.Refusals.{numberOf, ifDone, Told, answer}
+use Rattle.order.specs.Cells.{isOrder}
+use Rattle.order.specs.Order.{cellNumbers, listed, isOrderOf}
+use Rattle.order.proofs.Refusals.{all-hold, check-holds, check-fails, check-held, later-decide, all-held, sized-holds}
+use Rattle.order.proofs.Check.{listing-parts}
+use Rattle.coordinates.specs.Calls.{coordinateAt}
+use Rattle.coordinates.proofs.RoundTrip.{order-of-any}
+use Rattle.code.specs.Words.{wordAt}
+use Rattle.code.specs.Calls.{wordOf, Reading, noReading}
+use Rattle.code.proofs.Decoding.{exchange-order}
+use Rattle.group.specs.declared.Group.{Group}
+use Rattle.group.specs.Levels.{put, AtMost, rises, leaked}
+use Rattle.writing.specs.PushUp.{singles, Shows}
+use Rattle.group.specs.Record.{isRow, groupChecks, withLevels, withCaps, erased}
+use Rattle.writing.specs.Calls.{Program, writeChecks, pushArray, raised, fits, pushed, unpushed, writeOf}
+use Rattle.group.specs.Calls.{cellChecks, wearChecks, leakOf, wearOf, eraseOf}
+use Rattle.group.proofs.Levels.{at-most-refl, at-most-length, at-most-true, rises-down, leaked-below}
+use Rattle.writing.proofs.Orders.{order-shows}
+use Rattle.group.proofs.Rows.{row-below}
+use Rattle.group.proofs.Checks.{checked-size, checked-caps}
+use Rattle.group.proofs.Groups.{IsGroup, leak-group, wear-group, erase-group}
+use Rattle.writing.proofs.Writes.{write-group}
+use Rattle.sensing.proofs.Sensed.{sensed-order}
+use Rattle.plain_machine.specs.declared.Kind.{Kind}
+use Rattle.plain_machine.specs.declared.Kind.the-variants.{Write, Store, Scrub, Leak, Wear, Erase, Read}
+use Rattle.plain_machine.specs.declared.Call.{Call}
+use Rattle.engine.specs.Calls.{sensedOrder, placeRead, readChecks, readingOf, readOf, storeChecks, storeOf}
+use Rattle.engine.specs.Scrub.{Step, quiet, programmedStep, wordFound, scrubChecks, scrubOf, afterRead}
+use Rattle.plain_machine.specs.Machine.{writes, targetBy, target, checksBy, checks, earlierBy, earlierChecks, afterProgram, afterChange, applyBy, applyOf}
+
+-- ---- answers
+
+-- what holds of the result where the number is 0, and of the zeros, holds of what the number picks
+pub by-number : {A : Type 0} (P : A → Type 0) (k : ℕ) (result zeros : A) → (k ≡ 0 → P result) → P zeros → P (ifDone k result zeros)
+by-number P zero result zeros p q = p refl
+by-number P (suc k) result zeros p q = q
+
+-- what a call carries where all its checks hold
+abbrev readStep : Group → Reading → Step
+readStep g r = record { group = g; symbol = r .symbol; verdict = r .verdict; pulses = 0; count = 0; pushes = pushArray [] }
+
+abbrev pub acceptBy : Group → Order → Kind → Step
+acceptBy g o Write = programmedStep (pushed g (listed o)) 0 none
+acceptBy g o (Store s) = programmedStep (pushed g (wordOf (g .n) s)) s none
+acceptBy g o Scrub = programmedStep (pushed g (wordFound g)) (readingOf g .symbol) (readingOf g .verdict)
+acceptBy g o (Leak c d) = quiet (withLevels g (leaked (c .0) d (g .levels)))
+acceptBy g o (Wear c cap) = quiet (withCaps g (put (g .caps) (c .0) cap))
+acceptBy g o Erase = quiet (erased g)
+acceptBy g o Read = readStep g (readingOf g)
+
+abbrev pub accept : Group → Call → Step
+accept g c = acceptBy g (c .target) (c .kind)
+
+-- an answer's value, and what is made of it
+module _ (list : List (Bool × Refusal)) (g : Group) where
+  after-program : (p : Program) (s : ℕ) → afterProgram (answer list p (unpushed g)) s ≡ answer list (programmedStep p s none) (quiet g)
+  unfolding answer
+  after-program p s = go (numberOf list)
+    where
+      go : (k : ℕ)
+          → _≡_ {A = Told Step} (record { number = k; value = programmedStep (ifDone k p (unpushed g)) (ifDone k s 0) none })
+          (record { number = k; value = ifDone k (programmedStep p s none) (quiet g) })
+      go zero = refl
+      go (suc k) = refl
+
+  after-change : (h : Group) → afterChange (answer list h g) ≡ answer list (quiet h) (quiet g)
+  unfolding answer
+  after-change h = go (numberOf list)
+    where
+      go : (k : ℕ) → _≡_ {A = Told Step} (record { number = k; value = quiet (ifDone k h g) }) (record { number = k; value = ifDone k (quiet h) (quiet g) })
+      go zero = refl
+      go (suc k) = refl
+
+  after-read : (r : Reading) → afterRead g (answer list r noReading) ≡ answer list (readStep g r) (quiet g)
+  unfolding answer
+  after-read r = go (numberOf list)
+    where
+      go : (k : ℕ) → _≡_ {A = Told Step} (record { number = k; value = readStep g (ifDone k r noReading) }) (record { number = k; value = ifDone k (readStep g r) (quiet g) })
+      go zero = refl
+      go (suc k) = refl
+
+apply-by : (g : Group) (o : Order) (k : Kind) → applyBy g o k ≡ answer (checksBy g o k) (acceptBy g o k) (quiet g)
+unfolding writeOf storeOf scrubOf leakOf wearOf eraseOf readOf
+apply-by g o Write = after-program (writeChecks g o) g _ _
+apply-by g o (Store s) = after-program (storeChecks g s) g _ _
+apply-by g o Scrub = refl
+apply-by g o (Leak c d) = after-change (cellChecks g c) g _
+apply-by g o (Wear c cap) = after-change (wearChecks g c cap) g _
+apply-by g o Erase = after-change (groupChecks g) g _
+apply-by g o Read = after-read (readChecks g) g _
+
+pub apply-number : (g : Group) (c : Call) → applyOf g c .number ≡ numberOf (checks g c)
+unfolding applyOf answer
+apply-number g c = ap (λ (t : Told Step). t .number) (apply-by g (c .target) (c .kind))
+
+pub apply-value : (g : Group) (c : Call) → applyOf g c .value ≡ ifDone (numberOf (checks g c)) (accept g c) (quiet g)
+unfolding applyOf answer
+apply-value g c = ap (λ (t : Told Step). t .value) (apply-by g (c .target) (c .kind))
+
+-- a refused call leaves the record, so that the machine goes where it goes by its accepted calls alone
+pub same-group : (g : Group) (c : Call) → ifDone (applyOf g c .number) (applyOf g c .value .group) g ≡ applyOf g c .value .group
+same-group g c = rw (apply-number g c, apply-value g c) (go (numberOf (checks g c)))
+  where
+    go : (k : ℕ) → ifDone k (ifDone k (accept g c) (quiet g) .group) g ≡ ifDone k (accept g c) (quiet g) .group
+    go zero = refl
+    go (suc k) = refl
+
+-- ---- a group stays a group
+
+pub push-group : (g : Group) (xs : List ℕ) → IsGroup g → fits g xs ≡ true → IsGroup (pushed g xs .group)
+unfolding pushed fits
+push-group g xs h e =
+    let low = at-most-true (raised g xs) (g .caps) e in
+    let size = checked-size g (h .passes) in
+    let caps = checked-caps g (h .passes) in
+    let levels : isRow (g .n) (raised g xs) ≡ true = row-below (g .n) low caps in
+    record {
+      passes = sized-holds (g .n) (isRow (g .n) (raised g xs) && isRow (g .n) (g .caps)) NoGroup (size .0) (size .1) (rw (levels, caps));
+      levels = at-most-length low ∙ h .caps;
+      caps = h .caps;
+    }
+
+group-by : (g : Group) (o : Order) (k : Kind) → IsGroup g → IsGroup (applyBy g o k .value .group)
+unfolding storeOf scrubOf answer
+group-by g o Write h = write-group g o h
+group-by g o (Store s) h =
+    by-number (λ (p : Program). IsGroup (p .group)) (numberOf (storeChecks g s)) _ (unpushed g)
+    (λ e. push-group g _ h (check-held _ _ _ (check-held _ _ _ (all-held _ (groupChecks g) e .1) .1) .0)) h
+group-by g o Scrub h =
+    by-number (λ (s : Step). IsGroup (s .group)) (numberOf (scrubChecks g)) _ (quiet g)
+    (λ e. push-group g _ h (check-held _ _ _ (all-held _ (readChecks g) e .1) .0)) h
+group-by g o (Leak c d) h = leak-group g c d h
+group-by g o (Wear c cap) h = wear-group g c cap h
+group-by g o Erase h = erase-group g h
+group-by g o Read h = h
+
+pub apply-group : (g : Group) (c : Call) → IsGroup g → IsGroup (applyOf g c .value .group)
+unfolding applyOf
+apply-group g c h = group-by g (c .target) (c .kind) h
+
+-- ---- worn: past the earlier checks, the caps decide
+
+module _ (g : Group) (c : Call) (w : writes (c .kind) ≡ true) where
+  last : List (Bool × Refusal)
+  last = (fits g (target g c), Worn) ∷ []
+
+  split : numberOf (checks g c) ≡ numberOf (earlierChecks g c ++ last)
+  unfolding last
+  split = ap (λ (b : Bool). numberOf (earlierChecks g c ++ cond b last [])) w
+
+  -- a write that is done passed the earlier checks, and no new level is above its cap
+  pub done-checks : numberOf (checks g c) ≡ 0 → (numberOf (earlierChecks g c) ≡ 0) × AtMost (raised g (target g c)) (g .caps)
+  unfolding last fits
+  done-checks e =
+      let t = all-held last (earlierChecks g c) (sym split ∙ e) in
+      (t .0, at-most-true _ _ (check-held (fits g (target g c)) Worn [] (t .1) .0))
+
+  pub done-fits : numberOf (earlierChecks g c) ≡ 0 → fits g (target g c) ≡ true → numberOf (checks g c) ≡ 0
+  unfolding last
+  done-fits e f = split ∙ later-decide last (earlierChecks g c) e ∙ check-holds Worn [] f ∙ all-hold
+
+  pub worn-beyond : numberOf (earlierChecks g c) ≡ 0 → fits g (target g c) ≡ false → numberOf (checks g c) ≡ 8
+  unfolding last
+  worn-beyond e f = split ∙ later-decide last (earlierChecks g c) e ∙ check-fails Worn [] f
+
+-- ---- targets
+
+target-order : (g : Group) (o : Order) (k : Kind) → writes k ≡ true → numberOf (earlierBy g o k) ≡ 0 → isOrder (g .n) (targetBy g o k) ≡ true
+unfolding wordOf
+target-order g o Write w e =
+    listing-parts (cellNumbers o) (o .len) (g .n) (check-held (isOrderOf (g .n) o) NoOrder [] (all-held _ (groupChecks g) e .1) .0) .0
+target-order g o (Store s) w e = order-of-any (coordinateAt (wordAt (g .n) s)) (g .n)
+target-order g o Scrub w e = exchange-order (g .n) (sensedOrder g) (sensed-order (g .n) (g .levels)) (placeRead g)
+target-order g o (Leak c d) w e = absurd (false≢true w)
+target-order g o (Wear c cap) w e = absurd (false≢true w)
+target-order g o Erase w e = absurd (false≢true w)
+target-order g o Read w e = absurd (false≢true w)
+
+-- past the earlier checks, a write shows its target
+pub target-shows : (g : Group) (c : Call) → IsGroup g → writes (c .kind) ≡ true → numberOf (earlierChecks g c) ≡ 0
+    → Shows 1 (singles (target g c)) (raised g (target g c))
+unfolding raised
+target-shows g c h w e =
+    order-shows (g .n) (target g c) (g .levels) (target-order g (c .target) (c .kind) w e)
+    (omega (arith, checked-size g (h .passes) .1, h .levels))
+
+-- ---- pulses are the sum of the rises
+
+rises-zeros : (xs : List ℕ) (k : ℕ) → rises xs (replicate k 0) ≡ 0
+unfolding rises
+rises-zeros [] k = refl
+rises-zeros (x ∷ xs) zero = refl
+rises-zeros (x ∷ xs) (suc k) = omega (arith, rises-zeros xs k)
+
+accept-rises : (g : Group) (o : Order) (k : Kind) → rises (g .levels) (acceptBy g o k .group .levels) ≡ acceptBy g o k .pulses
+unfolding pushed
+accept-rises g o Write = refl
+accept-rises g o (Store s) = refl
+accept-rises g o Scrub = refl
+accept-rises g o (Leak c d) = rises-down (leaked-below (c .0) d (g .levels))
+accept-rises g o (Wear c cap) = rises-down (at-most-refl (g .levels))
+accept-rises g o Erase = rises-zeros (g .levels) 12
+accept-rises g o Read = rises-down (at-most-refl (g .levels))
+
+pub apply-rises : (g : Group) (c : Call) → rises (g .levels) (applyOf g c .value .group .levels) ≡ applyOf g c .value .pulses
+apply-rises g c =
+    rw (apply-value g c)
+    (by-number (λ (s : Step). rises (g .levels) (s .group .levels) ≡ s .pulses) (numberOf (checks g c)) (accept g c) (quiet g)
+    (λ e. accept-rises g (c .target) (c .kind)) (rises-down (at-most-refl (g .levels))))

@@ -1,0 +1,80 @@
+// The plain machine (document 01, "The plain machine"): `apply`, one of the seven calls of demand 3. It takes any record and any call and answers
+// them by one equation with a definition of specs/. Proved besides: a group stays a group under every call, and the pulses of an answer are the
+// rises of its levels (proofs/Machine).
+use engine::Applied;
+use engine::Judged;
+use group::Changed;
+use group::Group;
+use order::Cell;
+use order::Order;
+use order::Outcome;
+use writing::Written;
+ghost use mathlib.Core.Path.{_≡_};
+ghost use Rattle.group.specs.Calls.{toldChanged};
+ghost use Rattle.writing.specs.Calls.{toldWritten};
+ghost use Rattle.engine.specs.Scrub.{toldApplied};
+ghost use Rattle.plain_machine.specs.Machine.{afterProgram, afterChange, applyOf};
+
+// One of the seven calls of demand 3, with its numbers. The order of a write stands beside it in the call.
+pub enum Kind {
+    Write,
+    Store(u32),
+    Scrub,
+    Leak(Cell, u32),
+    Wear(Cell, u32),
+    Erase,
+    Read,
+}
+
+pub struct Call {
+    pub kind: Kind,
+    pub target: Order,
+}
+
+// One call of the plain machine.
+pub fn apply(g: Group, call: Call) -> Applied
+    ensures { λ r. ⌜ toldApplied r ≡ applyOf g call ⌝ }
+{
+    let target = call.target;
+    let kind = call.kind;
+    match kind {
+        Kind::Write => from_written(writing::write(g, target), 0),
+        Kind::Store(symbol) => from_written(engine::store(g, symbol), symbol),
+        Kind::Scrub => engine::scrub(g),
+        Kind::Leak(cell, d) => from_changed(group::leak(g, cell, d)),
+        Kind::Wear(cell, cap) => from_changed(group::wear(g, cell, cap)),
+        Kind::Erase => from_changed(group::erase(g)),
+        Kind::Read => engine::from_read(g, engine::read(g)),
+    }
+}
+
+// The answer of leak, wear or erase.
+fn from_changed(answer: Changed) -> Applied
+    ensures { λ r. ⌜ toldApplied r ≡ afterChange (toldChanged answer) ⌝ }
+{
+    let outcome = answer.outcome;
+    let group = answer.group;
+    engine::unchanged(outcome, group)
+}
+
+// The answer of a write, or of a store of a symbol.
+fn from_written(answer: Written, symbol: u32) -> Applied
+    ensures { λ r. ⌜ toldApplied r ≡ afterProgram (toldWritten answer) symbol ⌝ }
+{
+    let outcome = answer.outcome;
+    let group = answer.group;
+    let pushes = answer.pushes;
+    let mut told: u32 = 0;
+    if let Outcome::Done = outcome {
+        told = symbol;
+    }
+    Applied {
+        outcome,
+        group,
+        symbol: told,
+        verdict: Judged::Nothing,
+        pulses: answer.pulses,
+        count: answer.count,
+        pushes,
+    }
+}

@@ -1,0 +1,4 @@
+pub mod Told
+pub mod Bytes
+pub mod Cut
+pub mod Fields

@@ -1,0 +1,23 @@
+-- `records::from_read` meets its contract.
+-- Assumes nothing.
+use borrow.Author.Needs.{needs}
+use Rattle.records.proofs.from_read.Statement.{statement}
+use Rattle.records.proofs.from_read.Tie as tie
+
+enum-known-answer : tie.Need-enum-known-answer
+enum-known-answer c = search needs
+
+alone-requires : tie.Need-alone-requires
+alone-requires c κs = search needs
+
+enum-known-answer-2 : tie.Need-enum-known-answer-2
+enum-known-answer-2 c = search needs
+
+returns : tie.Need-returns
+returns c = rw (c .before .before .answer .given .1) (c .alone .ensures)
+
+returns-2 : tie.Need-returns-2
+returns-2 c = rw (c .before .answer2 .given .1)
+
+pub from-read-spec : {M : Type 1} → statement M
+from-read-spec = tie.close (tie.spec enum-known-answer alone-requires enum-known-answer-2 returns returns-2)

@@ -1,0 +1,149 @@
+-- Wrong machines that demand 3 shuts out. Each is caught on a group of three cells, just opened, by the order [1, 2, 3]: the plain machine
+-- goes to levels 2, 1, 0 for 3 pulses, and that course is one of the rivals of every machine that accepts that write.
+-- Assumes nothing.
+use Prim.Native.Nat.{ℕ, _+_, _<_}
+use mathlib.Core.Path.{_≡_, refl}
+use mathlib.Core.Bool.{cond, _&&_}
+use mathlib.Core.List.{List, [], _∷_}
+use native.Mathlib.Omega.{arith}
+use lib.Dec.{lit<, lit≤, leb}
+use lib.ListN.{replicate}
+use Rattle.order.specs.declared.Order.{Order}
+use Rattle.order.specs.Refusals.{numberOf, Told, answer}
+use Rattle.order.specs.Cells.{eachOnce, isOrder, allZero, isListing}
+use Rattle.order.specs.Order.{cellNumbers, orderRecord}
+use Rattle.group.specs.Levels.{level, put, AtMost, atMost, rises}
+use Rattle.writing.specs.PushUp.{singles, top, floorOver, Reach, Shows, lift, raise}
+use Rattle.group.specs.Record.{allAtMost, isRow, opened, withLevels}
+use Rattle.writing.specs.Calls.{raised, fits, pushed, writeOf}
+use Rattle.group.specs.Calls.{wearOf}
+use Rattle.group.proofs.Levels.{at-most-true, at-most-level}
+use Rattle.plain_machine.specs.declared.Kind.the-variants.{Write, Wear}
+use Rattle.plain_machine.specs.declared.Call.{Call}
+use Rattle.engine.specs.Scrub.{Step, quiet}
+use Rattle.plain_machine.specs.Machine.{writes, target, applyOf}
+use Rattle.rivals.specs.Rivals.{Rival, Raised, Follows, Moves, entrant, latest, Machine, after, pulsesOf, plain, plainAfter, rest, next, Raisable, Demand3, own}
+
+abbrev pub order : Order
+order = orderRecord (1 ∷ 2 ∷ 3 ∷ [])
+
+abbrev pub call : Call
+call = record { kind = Write; target = order }
+
+-- where the plain machine goes, and its course
+abbrev least : List ℕ
+least = 2 ∷ 1 ∷ 0 ∷ replicate 9 0
+
+abbrev course : Rival
+course = record { levels = least; caps = opened 3 .caps; pulses = 3 }
+
+course-raised : Raised (target (opened 3) call) (entrant (opened 3)) course
+unfolding entrant orderRecord cellNumbers singles Shows Reach floorOver top atMost rises level
+course-raised =
+    record {
+      no-lower = at-most-true _ _ refl;
+      shows = ((lit≤ tt, tt), ((lit≤ tt, tt), ((lit≤ tt, tt), tt)));
+      within = at-most-true _ _ refl;
+      same-caps = refl;
+      spent = refl;
+    }
+
+module _ (run : Machine) where
+  -- it says worn where a rival can be raised
+  worn-refuted : run (opened 3) call .number ≡ 8 → ¬ (Demand3 run (opened 3) [])
+  unfolding Raisable latest after plain numberOf isRow allAtMost orderRecord cellNumbers isListing isOrder eachOnce allZero
+  worn-refuted e d = d .worn-exactly call refl refl .0 e ([], rest, course, course-raised)
+
+  -- it goes higher than the plain machine does
+  high-refuted : run (opened 3) call .number ≡ 0 → ¬ (AtMost (run (opened 3) call .value .group .levels) least)
+      → ¬ (Demand3 run (opened 3) (call ∷ []))
+  unfolding latest after Moves Follows
+  high-refuted e high d = high (d .lowest (course ∷ []) (next (rw e course-raised) rest))
+
+  -- it reports more pulses
+  dear-refuted : run (opened 3) call .number ≡ 0 → 3 < run (opened 3) call .value .pulses → ¬ (Demand3 run (opened 3) (call ∷ []))
+  unfolding latest pulsesOf Moves Follows
+  dear-refuted e dear d = let spent = d .cheapest (course ∷ []) (next (rw e course-raised) rest) in omega arith
+
+-- ---- such machines
+
+-- one that says worn to everything
+pub quitter : Machine
+quitter g c = record { number = 8; value = quiet g }
+
+pub quitter-refuted : ¬ (Demand3 quitter (opened 3) [])
+unfolding quitter
+quitter-refuted = worn-refuted quitter refl
+
+-- what the plain machine answers to that write
+plain-answer : let t = applyOf (opened 3) call in (t .number ≡ 0) × (t .value .group .levels ≡ least) × (t .value .pulses ≡ 3)
+unfolding applyOf writeOf answer pushed rises numberOf isRow allAtMost orderRecord cellNumbers isListing isOrder eachOnce allZero fits raised raise lift singles floorOver top level put atMost
+plain-answer = (refl, refl, refl)
+
+-- the plain machine's answer with other levels, and with other pulses
+abbrev altered : (List ℕ → List ℕ) → (ℕ → ℕ) → Told Step → Told Step
+altered levels pulses t =
+    let v = t .value in
+    record {
+      number = t .number;
+      value =
+          record {
+            group = withLevels (v .group) (levels (v .group .levels));
+            symbol = v .symbol;
+            verdict = v .verdict;
+            pulses = pulses (v .pulses);
+            count = v .count;
+            pushes = v .pushes;
+          };
+    }
+
+-- one that raises cell 1 by one more than needed, and counts that pulse
+pub eager : Machine
+eager g c = altered (λ ls. put ls 1 (level ls 1 + 1)) (λ k. k + 1) (applyOf g c)
+
+pub eager-refuted : ¬ (Demand3 eager (opened 3) (call ∷ []))
+unfolding eager level put
+eager-refuted = high-refuted eager (plain-answer .0) (λ p. let high = rw (plain-answer .1) at (at-most-level 1 p) in omega arith)
+
+-- one that reports more pulses than it spent
+pub boaster : Machine
+boaster g c = altered (λ ls. ls) (λ k. k + 1) (applyOf g c)
+
+pub boaster-refuted : ¬ (Demand3 boaster (opened 3) (call ∷ []))
+unfolding boaster
+boaster-refuted = dear-refuted boaster (plain-answer .0) (rw (plain-answer .2) (lit< tt))
+
+-- one that reports no pulses
+pub silent : Machine
+silent g c = altered (λ ls. ls) (λ k. 0) (applyOf g c)
+
+pub silent-refuted : ¬ (Demand3 silent (opened 3) (call ∷ []))
+unfolding silent own latest entrant pulsesOf rises
+silent-refuted d = let e = rw (plain-answer .1) at (d .exact) in omega arith
+
+-- one that says worn before it reckons the new levels: where cell 1 stands at its cap. After the write, with cell 1 worn to its level, the
+-- same write raises nothing
+pub hasty : Machine
+hasty g c = cond (writes (c .kind) && leb (level (g .caps) 1) (level (g .levels) 1)) (record { number = 8; value = quiet g }) (applyOf g c)
+
+abbrev pub worn-call : Call
+worn-call = record { kind = Wear (record { 0 = 1 }) 2; target = order }
+
+abbrev worn-course : Rival
+worn-course = record { levels = least; caps = put (opened 3 .caps) 1 2; pulses = 3 }
+
+pub hasty-refuted : ¬ (Demand3 hasty (opened 3) (call ∷ worn-call ∷ []))
+unfolding hasty Raisable latest after plain plainAfter entrant Moves Follows applyOf writeOf wearOf answer pushed rises numberOf isRow allAtMost orderRecord cellNumbers isListing isOrder eachOnce allZero fits raised raise lift singles floorOver top level put atMost Shows Reach
+hasty-refuted d =
+    d .worn-exactly call refl refl .0 refl (
+      course ∷ worn-course ∷ [],
+      next course-raised (next refl rest),
+      worn-course,
+      record {
+        no-lower = at-most-true _ _ refl;
+        shows = ((lit≤ tt, tt), ((lit≤ tt, tt), ((lit≤ tt, tt), tt)));
+        within = at-most-true _ _ refl;
+        same-caps = refl;
+        spent = refl;
+      },
+    )

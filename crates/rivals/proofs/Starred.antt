@@ -1,0 +1,25 @@
+-- Document 01's starred cases hold: one statement over the whole table.
+-- Assumes nothing.
+use mathlib.Core.Path.{refl}
+use Rattle.order.specs.Refusals as refusals
+use Rattle.order.specs.Cells.{eachOnce, isOrder, allZero, isListing, placeFrom, placeOf}
+use Rattle.order.specs.Order.{cellNumbers, orderRecord}
+use Rattle.coordinates.specs.Coordinates.{coordinateOf, coordinatesTo, orderFrom}
+use Rattle.coordinates.specs.Calls.{coordinatesOf, coordinatesOfOrder}
+use Rattle.distance.specs.Distance.{distanceOf}
+use Rattle.cost.specs.Cost.{displacement, displacements, largerOf, largest, cost, displacementsOf, costOf}
+use Rattle.code.specs.Words.{joined, select, same, indexOf, vectorsFrom, weight, leaves, vectors, words, K, wordAt, wordNumber}
+use Rattle.code.specs.Decoding.{isCodeword, firstBelow, correction, symbolOf}
+use Rattle.code.specs.Calls.{wordOf, codewordOf, readingAt, decodeOf}
+use Rattle.group.specs.Levels.{level, put, atMost, rises}
+use Rattle.group.specs.Record.{allAtMost, isRow}
+use Rattle.writing.specs.PushUp.{singles, top, floorOver, lift, raise, pushOf, rankPushes, pushes}
+use Rattle.sensing.specs.Sense.{above, insert, sorted, sensed}
+use Rattle.writing.specs.Calls.{raised, fits, pushed, writeOf}
+use Rattle.sensing.specs.Sense.{senseOf}
+use Rattle.engine.specs.Calls.{readOf, storeOf}
+use Rattle.rivals.specs.Starred.{EachRight, starred}
+
+pub starred-hold : EachRight starred
+unfolding refusals.answer refusals.numberOf eachOnce isOrder allZero isListing placeFrom placeOf cellNumbers orderRecord coordinateOf coordinatesTo orderFrom coordinatesOf coordinatesOfOrder distanceOf displacement displacements largerOf largest cost displacementsOf costOf joined select same indexOf vectorsFrom weight leaves vectors words K wordAt wordNumber isCodeword firstBelow correction symbolOf wordOf codewordOf readingAt decodeOf level put atMost rises allAtMost isRow singles top floorOver lift raise pushOf rankPushes pushes raised fits pushed writeOf above insert sorted sensed senseOf readOf storeOf
+starred-hold = (refl, (refl, (refl, (refl, (refl, (refl, (refl, (refl, (refl, (refl, (refl, (refl, (refl, (refl, (refl, (refl, (refl, (refl, (refl, (refl, (refl, (refl, (refl, (refl, (refl, (refl, (refl, (refl, tt))))))))))))))))))))))))))))

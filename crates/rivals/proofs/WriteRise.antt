@@ -1,0 +1,134 @@
+-- The theorem of CostRise over the answers of `cost` and `write`: the cost of u to v is the rise of the top level when a group with levels
+-- n down to 1 along u accepts v. And such a group, with all caps at 4,095, accepts every order v of its cells.
+-- Assumes nothing.
+use Prim.Native.Nat.{ℕ, zero, suc, _+_, _-_, _≤_, _<_}
+use native.Mathlib.Omega.{arith}
+use mathlib.Core.Path.{_≡_, sym, ap, _∙_}
+use mathlib.Core.Bool.{true, _&&_}
+use mathlib.Core.List.{List, _++_}
+use lib.ListN.{length, replicate}
+use lib.IntN.{subℕ}
+use Rattle.order.specs.declared.Order.{Order}
+use Rattle.order.specs.declared.Refusal.the-variants.{NoGroup, NoOrder, Worn}
+use Rattle.order.specs.Refusals.{numberOf, answer}
+use Rattle.order.specs.Cells.{tabulate, placeOf, isOrder}
+use Rattle.order.specs.Order.{cellNumbers, listed, isOrderOf, pairChecks}
+use Rattle.order.proofs.Cells.{order-true}
+use Rattle.order.proofs.Check.{listing-parts}
+use Rattle.order.proofs.Refusals.{later-decide, check-holds, all-hold, sized-holds}
+use Rattle.order.proofs.Records.{passed}
+use Rattle.order.proofs.Pairs.{listing-length, same-length, passed-second, pair-size, first-order, second-order}
+use Rattle.cost.specs.Cost.{cost, costOf}
+use Rattle.cost.proofs.Costs.{rank-high}
+use Rattle.group.specs.declared.Group.{Group}
+use Rattle.group.specs.Levels.{AtMost, more}
+use Rattle.writing.specs.PushUp.{singles, Shows}
+use Rattle.group.specs.Record.{isRow, groupChecks}
+use Rattle.writing.specs.Calls.{raised, pushed, writeOf}
+use Rattle.group.proofs.Levels.{at-most-refl, at-most-trans}
+use Rattle.group.proofs.Rows.{row-below, caps-row}
+use Rattle.group.proofs.Checks.{checked-size}
+use Rattle.writing.proofs.Orders.{Falling, falling-shows}
+use Rattle.writing.proofs.Writes.{write-accepted, fits-where}
+use Rattle.rivals.proofs.Climb.{cell-stands}
+use Rattle.rivals.specs.Rise.{topLevel, written, Staircase}
+use Rattle.rivals.proofs.CostRise.{stairs, length-stairs, stairs-at, stairs-fall, cost-is-rise}
+
+-- ---- over the answers
+
+cost-accepted : (u v : Order) → costOf u v .number ≡ 0
+    → (numberOf (pairChecks u v) ≡ 0) × (costOf u v .value ≡ cost (u .len) (listed u) (listed v))
+unfolding costOf answer
+cost-accepted u v d = (d, rw d)
+
+-- an accepted write leaves the levels of the minimal push-up
+written-levels : (g : Group) (v : Order) → writeOf g v .number ≡ 0
+    → writeOf g v .value .group .levels ≡ written (listed v) (g .levels)
+unfolding pushed raised
+written-levels g v a = rw (write-accepted g v a .3)
+
+-- levels n down to 1 along u, and a write of v that is accepted: the top level rises by the cost
+pub write-rise : (g : Group) (u v : Order) → length (g .levels) ≡ 12 → Staircase (g .n) (listed u) (g .levels) → costOf u v .number ≡ 0
+    → writeOf g v .number ≡ 0 → costOf u v .value ≡ subℕ (topLevel (g .n) (writeOf g v .value .group .levels)) (topLevel (g .n) (g .levels))
+write-rise g u v w s d a =
+    let c = cost-accepted u v d in
+    let t = write-accepted g v a in
+    let size = checked-size g (t .0) in
+    let e : u .len ≡ g .n = sym (same-length u v (c .0)) ∙ listing-length (cellNumbers v) (v .len) (g .n) (t .1) in
+    let p = ap (λ (k : ℕ). isOrder k (listed u)) (sym e) ∙ first-order u v (c .0) in
+    let q = listing-parts (cellNumbers v) (v .len) (g .n) (t .1) .0 in
+    rw (written-levels g v a)
+    (c .1 ∙ ap (λ (k : ℕ). cost k (listed u) (listed v)) e
+    ∙ cost-is-rise (g .n) (listed u) (listed v) (g .levels) (omega arith) p q (omega arith) s)
+
+-- ---- a group that accepts
+
+-- levels n down to 1 along u, and full caps
+unfoldable pub stairGroup : Order → Group
+stairGroup u =
+    record {
+      n = u .len;
+      levels = stairs (u .len) (u .len) (listed u);
+      caps = replicate (u .len) 4095 ++ replicate (12 - u .len) 0;
+      written = true;
+    }
+
+at-most-tabulate : (n : ℕ) (f g : ℕ → ℕ) (zs : List ℕ) → ((k : ℕ) → k < n → f k ≤ g k) → AtMost (tabulate n f ++ zs) (tabulate n g ++ zs)
+at-most-tabulate zero f g zs h = at-most-refl zs
+at-most-tabulate (suc n) f g zs h = more (h 0 (omega arith)) (at-most-tabulate n (λ k. f (suc k)) (λ k. g (suc k)) zs (λ k l. h (suc k) (omega arith)))
+
+at-most-full : (n m : ℕ) (f : ℕ → ℕ) (zs : List ℕ) → ((k : ℕ) → k < n → f k ≤ m) → AtMost (tabulate n f ++ zs) (replicate n m ++ zs)
+at-most-full zero m f zs h = at-most-refl zs
+at-most-full (suc n) m f zs h = more (h 0 (omega arith)) (at-most-full n m (λ k. f (suc k)) zs (λ k l. h (suc k) (omega arith)))
+
+module _ (n : ℕ) (u v : List ℕ) (p : isOrder n u ≡ true) (q : isOrder n v ≡ true) (high : n ≤ 12) where
+  -- stairs to v from 2n are above those to u from n
+  stairs-above : AtMost (stairs n n u) (stairs (n + n) n v)
+  unfolding stairs placeOf
+  stairs-above =
+      at-most-tabulate n _ _ (replicate (12 - n) 0)
+      (λ k l. omega (arith, cell-stands n u p (suc k) (omega arith) l .place, rank-high n v (order-true n v q) k))
+
+  stairs-low : AtMost (stairs (n + n) n v) (replicate n 4095 ++ replicate (12 - n) 0)
+  unfolding stairs
+  stairs-low = at-most-full n 4095 _ (replicate (12 - n) 0) (λ k l. omega arith)
+
+  start-low : AtMost (stairs n n u) (replicate n 4095 ++ replicate (12 - n) 0)
+  start-low = at-most-trans stairs-above stairs-low
+
+  stairs-show : Shows 1 (singles v) (stairs (n + n) n v)
+  unfolding Falling
+  stairs-show =
+      falling-shows v (stairs (n + n) n v)
+      (λ i l.
+      let m : suc i < n = omega (arith, order-true n v q .size) in
+      omega (arith, stairs-at n v q (n + n) (suc i) m, stairs-at n v q (n + n) i (omega arith)))
+
+-- it accepts v
+pub stairs-written : (u v : Order) → costOf u v .number ≡ 0 → writeOf (stairGroup u) v .number ≡ 0
+unfolding stairGroup writeOf answer
+stairs-written u v d =
+    let c = cost-accepted u v d .0 in
+    let n = u .len in
+    let size = pair-size u v c in
+    let p = first-order u v c in
+    let q = second-order u v c in
+    let caps : List ℕ = replicate n 4095 ++ replicate (12 - n) 0 in
+    let start = row-below n (start-low n (listed u) (listed v) p q (size .1)) (caps-row n) in
+    let target : isOrderOf n v ≡ true = ap (λ (k : ℕ). isOrderOf k v) (sym (same-length u v c)) ∙ passed v (passed-second u v c) .2 in
+    later-decide _ (groupChecks (stairGroup u)) (sized-holds n (isRow n (stairs n n (listed u)) && isRow n caps) NoGroup (size .0) (size .1) (rw (start, caps-row n)))
+    ∙ check-holds NoOrder _ target
+    ∙ check-holds Worn _
+    (fits-where (stairGroup u) (listed v) (stairs (n + n) n (listed v)) (stairs-above n (listed u) (listed v) p q (size .1)) (stairs-show n (listed u) (listed v) p q (size .1))
+    (stairs-low n (listed u) (listed v) p q (size .1)))
+    ∙ all-hold
+
+-- so wherever `cost` answers, its answer is such a rise
+pub cost-answer-is-rise : (u v : Order) → costOf u v .number ≡ 0
+    → costOf u v .value ≡ subℕ (topLevel (u .len) (writeOf (stairGroup u) v .value .group .levels)) (topLevel (u .len) (stairGroup u .levels))
+unfolding stairGroup
+cost-answer-is-rise u v d =
+    let c = cost-accepted u v d .0 in
+    let p = first-order u v c in
+    write-rise (stairGroup u) u v (length-stairs (u .len) (listed u) p (u .len) (pair-size u v c .1)) (stairs-fall (u .len) (listed u) p) d
+    (stairs-written u v d)

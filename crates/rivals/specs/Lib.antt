@@ -1,0 +1,3 @@
+pub mod Rise
+pub mod Rivals
+pub mod Starred

@@ -1,0 +1,131 @@
+-- Document 01, "The rivals of demand 3", and demand 3: one claim about every list of calls on one group.
+-- The claim is about any machine that answers calls. That ours meets it is the theorem `demand3-open` (proofs/Demand3) about `applyOf`, which is
+-- the whole answer of the public function `apply` by its contract. Of a machine's answers it speaks of the number, the pulses and the group:
+-- of its levels and caps beside the rivals', and of the whole record in the checks of the call that comes next. The symbol, the verdict and
+-- the pushes are fixed by the contracts alone.
+--
+--   Rival               a rival at one moment: levels and caps, as a group has them, and its pulses
+--   Raised t r s        at an accepted write, store or scrub of target t it comes from r to s: it raises any cells by any amounts and lowers
+--                       none; then the target shows in its levels, and no level is above its cap; its pulses grow by the sum of these rises
+--   Follows k t r s     what it does at an accepted call of kind k and target t
+--   Moves number k t r s    and at any call: one answered with number 0 was accepted; at any other nothing changes
+--   entrant g           at first it has the levels and caps of the record that the list starts from, and no pulses
+--   latest r ss         where a rival stands that was at r and came to these states since
+--   plainAfter          the plain machine's group after one call: it goes with the accepted ones
+--   Machine             the claim is about it: it answers a call on a record
+--   after, pulsesOf     its group after the calls, each handed the record as the call before left it, and what its answers add up to
+--   plain               the plain machine's group after the calls: it has had the same start and the same accepted calls
+--   Course, IsRival     a rival and its states after each of the calls. It is fed the arguments and whether each call was accepted; the target
+--                       of a scrub is the codeword that the plain machine finds when it reads there
+--   own g q cs          the machine's own course from the group g, with q pulses so far: its levels and caps after each call, and the sum of
+--                       the rises of its levels
+--   Raisable            some rival so far can be raised to show t within the caps
+--   Demand3 g cs        the parts of demand 3, of a machine that starts from the group g and has had the calls cs
+--   MeetsDemand3        the whole of demand 3: of every list of calls, from the record that an accepted open returned
+use Prim.Native.Nat.{ℕ, zero, suc, _+_, _≤_}
+use mathlib.Core.Path.{_≡_}
+use mathlib.Core.Logic.{_↔_}
+use mathlib.Core.Bool.{true}
+use mathlib.Core.List.{List, [], _∷_}
+use lib.ListN.{replicate}
+use Rattle.order.specs.Refusals.{numberOf, ifDone, Told}
+use Rattle.group.specs.declared.Group.{Group}
+use Rattle.group.specs.Levels.{put, AtMost, rises, leaked}
+use Rattle.writing.specs.PushUp.{singles, Shows}
+use Rattle.group.specs.Calls.{openOf}
+use Rattle.plain_machine.specs.declared.Kind.{Kind}
+use Rattle.plain_machine.specs.declared.Kind.the-variants.{Write, Store, Scrub, Leak, Wear, Erase, Read}
+use Rattle.plain_machine.specs.declared.Call.{Call}
+use Rattle.engine.specs.Scrub.{Step}
+use Rattle.plain_machine.specs.Machine.{writes, target, checks, earlierChecks, applyOf}
+
+pub record Rival : Type 0 where
+  pub levels : List ℕ
+  pub caps : List ℕ
+  pub pulses : ℕ
+
+pub record Raised (t : List ℕ) (r s : Rival) : Type 0 where
+  pub no-lower : AtMost (r .levels) (s .levels)
+  pub shows : Shows 1 (singles t) (s .levels)
+  pub within : AtMost (s .levels) (s .caps)
+  pub same-caps : s .caps ≡ r .caps
+  pub spent : s .pulses ≡ r .pulses + rises (r .levels) (s .levels)
+
+unfoldable pub Follows : Kind → List ℕ → Rival → Rival → Type 0
+Follows Write t r s = Raised t r s
+Follows (Store symbol) t r s = Raised t r s
+Follows Scrub t r s = Raised t r s
+Follows (Leak c d) t r s = s ≡ record { levels = leaked (c .0) d (r .levels); caps = r .caps; pulses = r .pulses }
+Follows (Wear c cap) t r s = s ≡ record { levels = r .levels; caps = put (r .caps) (c .0) cap; pulses = r .pulses }
+Follows Erase t r s = s ≡ record { levels = replicate 12 0; caps = r .caps; pulses = r .pulses }
+Follows Read t r s = s ≡ r
+
+unfoldable pub Moves : ℕ → Kind → List ℕ → Rival → Rival → Type 0
+Moves zero k t r s = Follows k t r s
+Moves (suc number) k t r s = s ≡ r
+
+unfoldable pub entrant : Group → Rival
+entrant g = record { levels = g .levels; caps = g .caps; pulses = 0 }
+
+unfoldable pub latest : Rival → List Rival → Rival
+latest r [] = r
+latest r (s ∷ ss) = latest s ss
+
+-- the plain machine's group p after a call that was answered with this number
+unfoldable pub plainAfter : ℕ → Group → Call → Group
+plainAfter number p c = ifDone number (applyOf p c .value .group) p
+
+abbrev pub Machine : Type 0
+Machine = Group → Call → Told Step
+
+module _ (run : Machine) where
+  unfoldable pub after : Group → List Call → Group
+  after g [] = g
+  after g (c ∷ cs) = after (run g c .value .group) cs
+
+  unfoldable pub pulsesOf : Group → List Call → ℕ
+  pulsesOf g [] = 0
+  pulsesOf g (c ∷ cs) = run g c .value .pulses + pulsesOf (run g c .value .group) cs
+
+  -- g is the machine's group, p the plain machine's, r where the rival stands
+  pub data Course : Group → Group → Rival → List Call → List Rival → Type 0 where
+    rest : {g p : Group} {r : Rival} → Course g p r [] []
+    next : {g p : Group} {r s : Rival} {c : Call} {cs : List Call} {ss : List Rival}
+        → Moves (run g c .number) (c .kind) (target p c) r s → Course (run g c .value .group) (plainAfter (run g c .number) p c) s cs ss → Course g p r (c ∷ cs) (s ∷ ss)
+
+  abbrev pub IsRival : Group → List Call → List Rival → Type 0
+  IsRival g cs ss = Course g g (entrant g) cs ss
+
+  -- the plain machine's group after the calls
+  unfoldable pub plain : Group → Group → List Call → Group
+  plain g p [] = p
+  plain g p (c ∷ cs) = plain (run g c .value .group) (plainAfter (run g c .number) p c) cs
+
+  unfoldable pub own : Group → ℕ → List Call → List Rival
+  own g q [] = []
+  own g q (c ∷ cs) =
+      let h = run g c .value .group in
+      let more = q + rises (g .levels) (h .levels) in
+      record { levels = h .levels; caps = h .caps; pulses = more } ∷ own h more cs
+
+  unfoldable pub Raisable : Group → List Call → List ℕ → Type 0
+  Raisable g cs t = (ss : List Rival) × IsRival g cs ss × (s : Rival) × Raised t (latest (entrant g) ss) s
+
+  pub record Demand3 (g : Group) (cs : List Call) : Type 0 where
+    -- number 0 is given exactly when nothing else in the refusal table applies
+    pub accepted : (c : Call) → (run (after g cs) c .number ≡ 0) ↔ (numberOf (checks (after g cs) c) ≡ 0)
+    -- no rival has any cell lower than ours
+    pub lowest : (ss : List Rival) → IsRival g cs ss → AtMost (after g cs .levels) (latest (entrant g) ss .levels)
+    -- every rival has spent at least as many pulses as our answers add up to
+    pub cheapest : (ss : List Rival) → IsRival g cs ss → pulsesOf g cs ≤ latest (entrant g) ss .pulses
+    -- our own course is one of the rivals
+    pub ours : IsRival g cs (own g 0 cs)
+    -- and its pulses are exactly what our answers add up to
+    pub exact : latest (entrant g) (own g 0 cs) .pulses ≡ pulsesOf g cs
+    -- a write, store or scrub that comes next and passes the earlier checks is refused as worn exactly when no rival so far can be raised to
+    -- show its target within the caps
+    pub worn-exactly : (c : Call) → writes (c .kind) ≡ true → numberOf (earlierChecks (after g cs) c) ≡ 0
+        → (run (after g cs) c .number ≡ 8) ↔ (¬ (Raisable g cs (target (plain g g cs) c)))
+
+  abbrev pub MeetsDemand3 : Type 0
+  MeetsDemand3 = (n : ℕ) → openOf n .number ≡ 0 → (cs : List Call) → Demand3 (openOf n .value) cs

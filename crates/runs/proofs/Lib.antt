@@ -1,0 +1,6 @@
+pub mod Room
+pub mod Follow
+pub mod Course
+pub mod Example
+pub mod Pulses
+pub mod Pieces

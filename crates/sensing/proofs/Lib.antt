@@ -1,0 +1,3 @@
+pub mod Sensed
+pub mod Settling
+pub mod Written

@@ -1,0 +1,6 @@
+pub mod Raise
+pub mod Orders
+pub mod Raising
+pub mod Told
+pub mod Row
+pub mod Writes

@@ -1,0 +1,11 @@
+-- The checks run in the order of document 01's row.
+-- Assumes nothing.
+use mathlib.Core.Path.{_≡_, refl}
+use mathlib.Core.Bool.{true}
+use Rattle.order.specs.declared.Order.{Order}
+use Rattle.order.specs.Refusals.{checkRow, inRow}
+use Rattle.group.specs.declared.Group.{Group}
+use Rattle.writing.specs.Calls.{writeChecks}
+
+pub write-in-row : (g : Group) (o : Order) → inRow (writeChecks g o) checkRow ≡ true
+write-in-row g o = refl

@@ -1,0 +1,69 @@
+-- Document 01, "The plain machine": what a write answers.
+--
+--   Program             what the answer carries: the group, the pulses, how many pushes, and the pushes with zeros after them
+--   toldWritten a       what the answer says: its number, and what it carries
+--   pushArray ps        eleven places: the pushes, and zeros after them
+--   raised g xs         the levels of the minimal push-up to an order
+--   fits g xs           no new level, raised or kept, is above its cell's cap
+--   pushed g xs         what an accepted write of an order carries: pulses are the sum of all rises
+--   unpushed g          what a refused write carries: the record given, no pulses, no pushes
+--   writeChecks g o     the checks of a write: 1, 2, 4, 8
+--   writeOf g o         the answer to `write`
+use Prim.Native.Nat.{ℕ, _-_}
+use mathlib.Core.Bool.{Bool}
+use mathlib.Core.List.{List, [], _∷_, _++_}
+use lib.ListN.{length, replicate}
+use Rattle.order.specs.declared.Order.{Order}
+use Rattle.order.specs.declared.Refusal.{Refusal}
+use Rattle.order.specs.declared.Refusal.the-variants.{NoOrder, Worn}
+use Rattle.order.specs.Refusals.{outcomeNumber, Told, answer}
+use Rattle.order.specs.Order.{listed, isOrderOf}
+use Rattle.group.specs.declared.Group.{Group}
+use Rattle.group.specs.Levels.{level, atMost, rises}
+use Rattle.group.specs.Record.{groupChecks, programmed}
+use Rattle.writing.specs.declared.Push.{Push}
+use Rattle.writing.specs.declared.Written.{Written}
+use Rattle.writing.specs.PushUp.{singles, raise, pushes}
+
+-- ---- write
+
+pub record Program : Type 0 where
+  pub group : Group
+  pub pulses : ℕ
+  pub count : ℕ
+  pub pushes : List Push
+
+abbrev pub toldWritten : Written → Told Program
+toldWritten a =
+    record {
+      number = outcomeNumber (a .outcome);
+      value = record { group = a .group; pulses = a .pulses; count = a .count; pushes = a .pushes };
+    }
+
+abbrev pub pushArray : List Push → List Push
+pushArray ps = ps ++ replicate (11 - length ps) (record { cell = record { 0 = 0 }; level = 0 })
+
+unfoldable pub raised : Group → List ℕ → List ℕ
+raised g xs = raise 1 (singles xs) (g .levels)
+
+unfoldable pub fits : Group → List ℕ → Bool
+fits g xs = atMost (raised g xs) (g .caps)
+
+unfoldable pub pushed : Group → List ℕ → Program
+pushed g xs =
+    let program : List Push = pushes 1 (singles xs) (g .levels) in
+    record {
+      group = programmed g (raised g xs);
+      pulses = rises (g .levels) (raised g xs);
+      count = length program;
+      pushes = pushArray program;
+    }
+
+abbrev pub unpushed : Group → Program
+unpushed g = record { group = g; pulses = 0; count = 0; pushes = pushArray [] }
+
+abbrev pub writeChecks : Group → Order → List (Bool × Refusal)
+writeChecks g o = groupChecks g ++ (isOrderOf (g .n) o, NoOrder) ∷ (fits g (listed o), Worn) ∷ []
+
+unfoldable pub writeOf : Group → Order → Told Program
+writeOf g o = answer (writeChecks g o) (pushed g (listed o)) (unpushed g)

@@ -1,0 +1,3 @@
+pub mod PushUp
+pub mod Calls
+pub mod Steps
