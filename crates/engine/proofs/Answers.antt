@@ -11,7 +11,7 @@ use borrow.Author.Tests.{ltb-true, lt-ltb}
 use Rattle.order.specs.declared.Order.{Order}
 use Rattle.order.specs.declared.OrderAnswer.{OrderAnswer}
 use Rattle.order.specs.declared.Refusal.{Refusal}
-use Rattle.order.specs.declared.Refusal.the-variants.{NoSymbol, Blank, Lost, Worn, NoOrder}
+use Rattle.order.specs.declared.Refusal.the-variants.{NoSymbol, Blank, Lost}
 use Rattle.order.specs.declared.Outcome.{Outcome}
 use Rattle.order.specs.declared.Outcome.the-variants.{Done, Refused}
 use Rattle.order.specs.Refusals.{refusalNumber, outcomeNumber, numberOf, Told, answer}
@@ -26,7 +26,7 @@ use Rattle.code.specs.Calls.{wordOf, Reading, noReading, readingAt, codewordChe
 use Rattle.code.proofs.Codewords.{symbol-order}
 use Rattle.group.specs.declared.Group.{Group}
 use Rattle.group.specs.Record.{groupChecks}
-use Rattle.writing.specs.Calls.{fits, pushed, unpushed, writeOf}
+use Rattle.writing.specs.Calls.{writeChecks, pushChecks, pushed, unpushed, writeOf}
 use Rattle.sensing.specs.Sense.{senseOf}
 use Rattle.group.proofs.Checks.{checked-size}
 use Rattle.sensing.proofs.Sensed.{sensed-order}
@@ -106,14 +106,14 @@ module _ (g : Group) where
 -- ---- the write of an order of the group's cells: refused as worn alone
 
 module _ (g : Group) (d : numberOf (groupChecks g) ≡ 0) (w : List ℕ) (t : isOrder (g .n) w ≡ true) where
-  pub write-listed : (checks : List (Bool × Refusal)) → numberOf checks ≡ numberOf ((fits g w, Worn) ∷ []) → writeOf g (orderRecord w) ≡ answer checks (pushed g w) (unpushed g)
+  pub write-listed : (checks : List (Bool × Refusal)) → numberOf checks ≡ numberOf (pushChecks g w) → writeOf g (orderRecord w) ≡ answer checks (pushed g w) (unpushed g)
   unfolding writeOf
   write-listed checks e =
       let o = orderRecord w in
       let (low, high) = checked-size g d in
       let list : listed o ≡ w = recorded-list (g .n) w t low high in
       let ordered : isOrderOf (g .n) o ≡ true = ap (λ (k : ℕ). isOrderOf k o) (sym (recorded-length (g .n) w t)) ∙ passed o (recorded-passes (g .n) w t low high) .2 in
-      same-answer (groupChecks g ++ (isOrderOf (g .n) o, NoOrder) ∷ (fits g (listed o), Worn) ∷ []) checks (pushed g (listed o)) (pushed g w) (unpushed g)
+      same-answer (writeChecks g o) checks (pushed g (listed o)) (pushed g w) (unpushed g)
       (later-decide _ (groupChecks g) d ∙ check-holds _ _ ordered ∙ rw list (sym e))
       (ap (pushed g) list)
 
@@ -135,9 +135,6 @@ module _ (g : Group) (s : ℕ) where
     abbrev symbolCheck : List (Bool × Refusal)
     symbolCheck = (ltb s (K (g .n)), NoSymbol) ∷ []
 
-    abbrev wornCheck : List (Bool × Refusal)
-    wornCheck = (fits g (wordOf (g .n) s), Worn) ∷ []
-
     -- the size has passed, so that the symbol decides
     symbol-decides : numberOf (codewordChecks (g .n) s) ≡ numberOf symbolCheck
     symbol-decides = let size = checked-size g d in check-holds _ _ (size-in (g .n) (size .0) (size .1))
@@ -149,7 +146,7 @@ module _ (g : Group) (s : ℕ) where
 
       pub store-no-symbol : {r : Refusal} → a .outcome ≡ Refused r → record { number = outcomeNumber (a .outcome); value = unpushed g } ≡ storeOf g s
       unfolding storeOf
-      store-no-symbol o = passed-on _ _ _ _ (outcome-first wornCheck symbolCheck codeword-number o ∙ sym (later-decide _ (groupChecks g) d)) _ o
+      store-no-symbol o = passed-on _ _ _ _ (outcome-first (pushChecks g (wordOf (g .n) s)) symbolCheck codeword-number o ∙ sym (later-decide _ (groupChecks g) d)) _ o
 
       module _ (o : a .outcome ≡ Done) where
         pub symbol-below : s < K (g .n)

@@ -17,7 +17,7 @@ use mathlib.Core.List.{List, [], _∷_, _++_}
 use mathlib.Core.Option.{some}
 use lib.Dec.{eqb, ltb}
 use borrow.Author.Tests.{ltb-true, ltb-false, lt-ltb, le-ltb, eqb-true, eq-eqb}
-use Rattle.order.specs.declared.Refusal.the-variants.{Size, NoGroup, NoSymbol, Blank, Lost, Worn}
+use Rattle.order.specs.declared.Refusal.the-variants.{Size, NoGroup, NoSymbol, Blank, Lost}
 use Rattle.order.specs.declared.Order.{Order}
 use Rattle.order.specs.declared.Outcome.the-variants.{Done}
 use Rattle.order.specs.Refusals.{numberOf, ifDone, Told, answer}
@@ -35,7 +35,7 @@ use Rattle.code.proofs.Decoding.{reads, reads-lost}
 use Rattle.code.proofs.Symbols.{symbol-reads}
 use Rattle.group.specs.declared.Group.{Group}
 use Rattle.group.specs.Record.{groupChecks}
-use Rattle.writing.specs.Calls.{Program, fits, pushed, unpushed, writeOf}
+use Rattle.writing.specs.Calls.{Program, pushChecks, pushed, unpushed, writeOf}
 use Rattle.group.proofs.Checks.{checked-size}
 use Rattle.sensing.proofs.Sensed.{sensed-order}
 use Rattle.group.proofs.Groups.{IsGroup}
@@ -67,12 +67,12 @@ module _ (h : Group) (d : numberOf (groupChecks h) ≡ 0) (w : h .written ≡ tr
 module _ (g : Group) (s : ℕ) where
   -- what an accepted store knows
   pub store-accepted : storeOf g s .number ≡ 0
-      → (numberOf (groupChecks g) ≡ 0) × (s < K (g .n)) × (fits g (wordOf (g .n) s) ≡ true)
+      → (numberOf (groupChecks g) ≡ 0) × (s < K (g .n)) × (numberOf (pushChecks g (wordOf (g .n) s)) ≡ 0)
   unfolding storeOf answer
   store-accepted e =
       let t = all-held _ (groupChecks g) e in
       let p = check-held (ltb s (K (g .n))) NoSymbol _ (t .1) in
-      (t .0, ltb-true s (K (g .n)) (p .0), check-held (fits g (wordOf (g .n) s)) Worn [] (p .1) .0)
+      (t .0, ltb-true s (K (g .n)) (p .0), p .1)
 
   -- a refused store gives the record back
   store-kept : {k : ℕ} → storeOf g s .number ≡ suc k → storeOf g s .value ≡ unpushed g

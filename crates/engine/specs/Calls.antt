@@ -13,7 +13,7 @@ use mathlib.Core.List.{List, [], _∷_, _++_}
 use mathlib.Core.Option.{some}
 use lib.Dec.{eqb, ltb}
 use Rattle.order.specs.declared.Refusal.{Refusal}
-use Rattle.order.specs.declared.Refusal.the-variants.{NoSymbol, Blank, Lost, Worn}
+use Rattle.order.specs.declared.Refusal.the-variants.{NoSymbol, Blank, Lost}
 use Rattle.order.specs.Refusals.{refusalNumber, Told, answer}
 use Rattle.code.specs.Words.{K}
 use Rattle.code.specs.Decoding.{correction}
@@ -21,7 +21,7 @@ use Rattle.code.specs.Calls.{wordOf, Reading, noReading, readingAt}
 use Rattle.group.specs.declared.Group.{Group}
 use Rattle.group.specs.Record.{groupChecks}
 use Rattle.sensing.specs.Sense.{sensed}
-use Rattle.writing.specs.Calls.{Program, fits, pushed, unpushed}
+use Rattle.writing.specs.Calls.{Program, pushChecks, pushed, unpushed}
 use Rattle.engine.specs.declared.ReadAnswer.{ReadAnswer}
 use Rattle.engine.specs.declared.ReadAnswer.the-variants as read
 use Rattle.engine.specs.declared.AlikeAnswer.{AlikeAnswer}
@@ -51,7 +51,7 @@ readOf g = answer (readChecks g) (readingOf g) noReading
 -- ---- store
 
 abbrev pub storeChecks : Group → ℕ → List (Bool × Refusal)
-storeChecks g s = groupChecks g ++ (ltb s (K (g .n)), NoSymbol) ∷ (fits g (wordOf (g .n) s), Worn) ∷ []
+storeChecks g s = groupChecks g ++ (ltb s (K (g .n)), NoSymbol) ∷ pushChecks g (wordOf (g .n) s)
 
 unfoldable pub storeOf : Group → ℕ → Told Program
 storeOf g s = answer (storeChecks g s) (pushed g (wordOf (g .n) s)) (unpushed g)

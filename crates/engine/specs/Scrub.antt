@@ -11,17 +11,16 @@
 --   scrubOf g           the answer to `scrub`: read, then write the codeword found
 use Prim.Native.Nat.{ℕ}
 use mathlib.Core.Bool.{Bool}
-use mathlib.Core.List.{List, [], _∷_, _++_}
+use mathlib.Core.List.{List, [], _++_}
 use mathlib.Core.Option.{Option, none, some}
 use Rattle.order.specs.declared.Refusal.{Refusal}
-use Rattle.order.specs.declared.Refusal.the-variants.{Worn}
 use Rattle.order.specs.Refusals.{outcomeNumber, Told, answer}
 use Rattle.distance.specs.Distance.{exchange}
 use Rattle.code.specs.declared.Verdict.{Verdict}
 use Rattle.code.specs.Calls.{Reading}
 use Rattle.group.specs.declared.Group.{Group}
 use Rattle.writing.specs.declared.Push.{Push}
-use Rattle.writing.specs.Calls.{Program, pushArray, fits, pushed}
+use Rattle.writing.specs.Calls.{Program, pushArray, pushChecks, pushed}
 use Rattle.engine.specs.declared.Judged.{Judged}
 use Rattle.engine.specs.declared.Judged.the-variants.{Nothing, By}
 use Rattle.engine.specs.declared.Applied.{Applied}
@@ -68,7 +67,7 @@ abbrev pub wordFound : Group → List ℕ
 wordFound g = exchange (placeRead g) (sensedOrder g)
 
 abbrev pub scrubChecks : Group → List (Bool × Refusal)
-scrubChecks g = readChecks g ++ (fits g (wordFound g), Worn) ∷ []
+scrubChecks g = readChecks g ++ pushChecks g (wordFound g)
 
 unfoldable pub scrubOf : Group → Told Step
 scrubOf g = answer (scrubChecks g) (programmedStep (pushed g (wordFound g)) (readingOf g .symbol) (readingOf g .verdict)) (quiet g)

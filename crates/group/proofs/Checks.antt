@@ -8,29 +8,43 @@ use native.Mathlib.Omega.{arith}
 use lib.Dec.{leb}
 use borrow.Author.Tests.{leb-true}
 use Rattle.order.specs.declared.Cell.{Cell}
-use Rattle.order.specs.declared.Refusal.the-variants.{NoCell}
+use Rattle.order.specs.declared.Refusal.the-variants.{NoGroup, NoCell}
 use Rattle.order.specs.Refusals.{numberOf}
 use Rattle.order.specs.Cells.{isCell}
 use Rattle.order.proofs.Cells.{both}
-use Rattle.order.proofs.Refusals.{all-held, check-held, sized-done}
+use Rattle.order.proofs.Refusals.{all-held, check-held, sized-done, sized-holds}
 use Rattle.group.specs.declared.Group.{Group}
-use Rattle.group.specs.Record.{isRow, groupChecks}
+use Rattle.group.specs.Record.{isRow, groupChecks, hasRows}
 use Rattle.group.specs.Calls.{cellChecks}
 
 -- ---- what a group tells
 
+-- what the record of a group keeps
+pub record Rules (g : Group) : Type 0 where
+  pub small : 3 ≤ g .n
+  pub large : g .n ≤ 12
+  pub levels : isRow 4095 (g .n) (g .levels) ≡ true
+  pub caps : isRow 4095 (g .n) (g .caps) ≡ true
+
+-- it passes the checks exactly when it keeps them
+pub rules-held : (g : Group) → numberOf (groupChecks g) ≡ 0 → Rules g
+rules-held g d =
+    let t = sized-done (g .n) _ _ d in
+    let rows = both (isRow 4095 (g .n) (g .levels)) (isRow 4095 (g .n) (g .caps)) (t .2) in
+    record { small = t .0; large = t .1; levels = rows .0; caps = rows .1 }
+
+pub rules-hold : (g : Group) → Rules g → numberOf (groupChecks g) ≡ 0
+rules-hold g r = sized-holds (g .n) (hasRows g) NoGroup (r .small) (r .large) (rw (r .levels, r .caps))
+
 module _ (g : Group) (d : numberOf (groupChecks g) ≡ 0) where
   pub checked-size : (3 ≤ g .n) × (g .n ≤ 12)
-  checked-size = let t = sized-done (g .n) _ _ d in (t .0, t .1)
+  checked-size = let r = rules-held g d in (r .small, r .large)
 
-  rows : (isRow (g .n) (g .levels) ≡ true) × (isRow (g .n) (g .caps) ≡ true)
-  rows = both (isRow (g .n) (g .levels)) (isRow (g .n) (g .caps)) (sized-done (g .n) _ _ d .2)
+  pub checked-levels : isRow 4095 (g .n) (g .levels) ≡ true
+  checked-levels = rules-held g d .levels
 
-  pub checked-levels : isRow (g .n) (g .levels) ≡ true
-  checked-levels = rows .0
-
-  pub checked-caps : isRow (g .n) (g .caps) ≡ true
-  checked-caps = rows .1
+  pub checked-caps : isRow 4095 (g .n) (g .caps) ≡ true
+  checked-caps = rules-held g d .caps
 
 pub cell-true : (n c : ℕ) → isCell n c ≡ true → (1 ≤ c) × (c ≤ n)
 cell-true n c e = let t = both (leb 1 c) (leb c n) e in (leb-true 1 c (t .0), leb-true c n (t .1))

@@ -1,8 +1,8 @@
 -- A group stays a group under open, leak, wear and erase.
 -- Assumes nothing.
-use Prim.Native.Nat.{ℕ, zero, suc, _-_, _≤_}
+use Prim.Native.Nat.{ℕ, zero, suc, _-_}
 use mathlib.Core.Path.{_≡_, refl, _∙_}
-use mathlib.Core.Bool.{Bool, true, _&&_}
+use mathlib.Core.Bool.{Bool, true}
 use mathlib.Core.List.{List, [], _∷_, _++_}
 use native.Mathlib.Omega.{arith}
 use lib.Dec.{leb}
@@ -10,16 +10,16 @@ use lib.ListN.{length, replicate, length-append, length-replicate}
 use borrow.Author.Tests.{leb-true}
 use Rattle.order.specs.declared.Cell.{Cell}
 use Rattle.order.specs.declared.Refusal.{Refusal}
-use Rattle.order.specs.declared.Refusal.the-variants.{Size, NoGroup, CapUp}
+use Rattle.order.specs.declared.Refusal.the-variants.{Size, CapUp}
 use Rattle.order.specs.Refusals.{numberOf, ifDone, answer, isSize}
-use Rattle.order.proofs.Refusals.{check-held, sized-holds, size-true, all-held}
+use Rattle.order.proofs.Refusals.{check-held, size-true, all-held}
 use Rattle.group.specs.declared.Group.{Group}
 use Rattle.group.specs.Levels.{level, AtMost}
 use Rattle.group.specs.Record.{isRow, groupChecks, opened, noGroup}
 use Rattle.group.specs.Calls.{cellChecks, openOf, leakOf, wearOf, eraseOf}
 use Rattle.group.proofs.Levels.{at-most-refl, at-most-length, put-below, leaked-below}
-use Rattle.group.proofs.Rows.{row-below, zeros-row, caps-row}
-use Rattle.group.proofs.Checks.{checked-size, checked-levels, checked-caps}
+use Rattle.group.proofs.Rows.{row-below, zeros-row, full-row}
+use Rattle.group.proofs.Checks.{rules-held, rules-hold, checked-levels}
 
 -- a record that passes the checks, with rows of twelve
 pub record IsGroup (g : Group) : Type 0 where
@@ -46,17 +46,18 @@ told-accepted checks result zeros e = (e, rw e)
 
 -- ---- groups
 
-group-of : (n : ℕ) (ls ks : List ℕ) (w : Bool) → 3 ≤ n → n ≤ 12 → isRow n ls ≡ true → isRow n ks ≡ true → length ls ≡ 12 → length ks ≡ 12
-    → IsGroup (record { n = n; levels = ls; caps = ks; written = w })
-group-of n ls ks w l h p q a b = record { passes = sized-holds n (isRow n ls && isRow n ks) NoGroup l h (rw (p, q)); levels = a; caps = b }
-
 module _ (g : Group) (h : IsGroup g) where
   -- good levels, and caps nowhere above the old ones
-  pub group-with : (ls ks : List ℕ) (w : Bool) → isRow (g .n) ls ≡ true → length ls ≡ 12 → AtMost ks (g .caps)
+  pub group-with : (ls ks : List ℕ) (w : Bool) → isRow 4095 (g .n) ls ≡ true → length ls ≡ 12 → AtMost ks (g .caps)
       → IsGroup (record { n = g .n; levels = ls; caps = ks; written = w })
   group-with ls ks w r l p =
-      let s = checked-size g (h .passes) in
-      group-of (g .n) ls ks w (s .0) (s .1) r (row-below (g .n) p (checked-caps g (h .passes))) l (at-most-length p ∙ h .caps)
+      let rules = rules-held g (h .passes) in
+      let next : Group = record { n = g .n; levels = ls; caps = ks; written = w } in
+      record {
+        passes = rules-hold next (record { small = rules .small; large = rules .large; levels = r; caps = row-below 4095 (g .n) p (rules .caps) });
+        levels = l;
+        caps = at-most-length p ∙ h .caps;
+      }
 
 pub open-group : (n : ℕ) → openOf n .number ≡ 0 → IsGroup (openOf n .value)
 unfolding openOf
@@ -66,15 +67,18 @@ open-group n e =
     let full : List ℕ = replicate n 4095 in
     let clear : List ℕ = replicate (12 - n) 0 in
     rw (t .1)
-    (group-of n (replicate 12 0) (full ++ clear) _ (s .0) (s .1) (zeros-row n) (caps-row n) refl
-    (length-append full clear ∙ omega (arith, length-replicate {A = ℕ} n 4095, length-replicate {A = ℕ} (12 - n) 0)))
+    (record {
+      passes = rules-hold (opened n) (record { small = s .0; large = s .1; levels = zeros-row 4095 n; caps = full-row 4095 n });
+      levels = refl;
+      caps = length-append full clear ∙ omega (arith, length-replicate {A = ℕ} n 4095, length-replicate {A = ℕ} (12 - n) 0);
+    })
 
 pub leak-group : (g : Group) (c : Cell) (d : ℕ) → IsGroup g → IsGroup (leakOf g c d .value)
 unfolding leakOf
 leak-group g c d h =
     let low = leaked-below (c .0) d (g .levels) in
     told-value IsGroup (cellChecks g c) _ g
-    (λ e. group-with g h _ (g .caps) _ (row-below (g .n) low (checked-levels g (h .passes))) (at-most-length low ∙ h .levels) (at-most-refl (g .caps))) h
+    (λ e. group-with g h _ (g .caps) _ (row-below 4095 (g .n) low (checked-levels g (h .passes))) (at-most-length low ∙ h .levels) (at-most-refl (g .caps))) h
 
 pub wear-group : (g : Group) (c : Cell) (cap : ℕ) → IsGroup g → IsGroup (wearOf g c cap .value)
 unfolding wearOf
@@ -87,4 +91,4 @@ wear-group g c cap h =
 pub erase-group : (g : Group) → IsGroup g → IsGroup (eraseOf g .value)
 unfolding eraseOf
 erase-group g h =
-    told-value IsGroup (groupChecks g) _ g (λ e. group-with g h (replicate 12 0) (g .caps) _ (zeros-row (g .n)) refl (at-most-refl (g .caps))) h
+    told-value IsGroup (groupChecks g) _ g (λ e. group-with g h (replicate 12 0) (g .caps) _ (zeros-row 4095 (g .n)) refl (at-most-refl (g .caps))) h

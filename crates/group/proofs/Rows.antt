@@ -74,17 +74,17 @@ all-append m (suc k) v ys h e = rw (le-leb v m h) (all-append m k v ys h e)
 
 -- ---- rows, place by place
 
--- the limit of place i of a row: 4,095 up to n places, and 0 beyond
-abbrev pub limit : ℕ → ℕ → ℕ
-limit n i = cond (ltb i n) 4095 0
+-- the limit of place i of a row: m up to n places, and 0 beyond
+abbrev pub limit : ℕ → ℕ → ℕ → ℕ
+limit m n i = cond (ltb i n) m 0
 
 -- a row of limits from place 12 - n on
-pub limit-at : (n i : ℕ) → n ≤ 12 → i < 12 → getD (replicate 12 4095 ++ replicate 12 0) (12 - n + i) 0 ≡ limit n i
-limit-at n i l h =
-    let full : List ℕ = replicate 12 4095 in
+pub limit-at : (m n i : ℕ) → n ≤ 12 → i < 12 → getD (replicate 12 m ++ replicate 12 0) (12 - n + i) 0 ≡ limit m n i
+limit-at m n i l h =
+    let full : List ℕ = replicate 12 m in
     let clear : List ℕ = replicate 12 0 in
     ⊎-elim
-    (λ t. rw (t .1) (List·getD-append full clear 0 (12 - n + i) (omega arith) ∙ getD-replicate 12 (12 - n + i) 4095 0 (omega arith)))
+    (λ t. rw (t .1) (List·getD-append full clear 0 (12 - n + i) (omega arith) ∙ getD-replicate 12 (12 - n + i) m 0 (omega arith)))
     (λ t.
     let e : 12 - n + i ≡ 12 + (i - n) = omega arith in
     rw (t .1, e) (getD-append-add full clear (i - n) 0 ∙ getD-replicate 12 (i - n) 0 0 (omega arith)))
@@ -96,26 +96,26 @@ regroup true q true s = refl
 regroup true true false s = refl
 regroup true false false s = refl
 
-first-in : (k x : ℕ) (xs : List ℕ) → isRow (suc k) (x ∷ xs) ≡ (leb x 4095 && isRow k xs)
+first-in : (m k x : ℕ) (xs : List ℕ) → isRow m (suc k) (x ∷ xs) ≡ (leb x m && isRow m k xs)
 unfolding isRow allAtMost
-first-in k x xs = regroup (leb x 4095) (allAtMost 4095 xs) true (allAtMost 0 (drop k xs)) ∙ rw (flag-ends (leb x 4095))
+first-in m k x xs = regroup (leb x m) (allAtMost m xs) true (allAtMost 0 (drop k xs)) ∙ rw (flag-ends (leb x m))
 
-first-past : (x : ℕ) (xs : List ℕ) → isRow 0 (x ∷ xs) ≡ (leb x 0 && isRow 0 xs)
+first-past : (m x : ℕ) (xs : List ℕ) → isRow m 0 (x ∷ xs) ≡ (leb x 0 && isRow m 0 xs)
 unfolding isRow allAtMost
-first-past x xs = regroup (leb x 4095) (allAtMost 4095 xs) (leb x 0) (allAtMost 0 xs) ∙ ap (λ (b : Bool). b && isRow 0 xs) (least (leb x 0) refl)
+first-past m x xs = regroup (leb x m) (allAtMost m xs) (leb x 0) (allAtMost 0 xs) ∙ ap (λ (b : Bool). b && isRow m 0 xs) (least (leb x 0) refl)
   where
-    least : (b : Bool) → leb x 0 ≡ b → (leb x 4095 && b) ≡ b
-    least true e = rw (le-leb x 4095 (omega (arith, leb-true x 0 e)))
-    least false e = and-false (leb x 4095)
+    least : (b : Bool) → leb x 0 ≡ b → (leb x m && b) ≡ b
+    least true e = rw (le-leb x m (omega (arith, leb-true x 0 e)))
+    least false e = and-false (leb x m)
 
-row-step : (n i : ℕ) (xs : List ℕ) → i < length xs → isRow (n - i) (drop i xs) ≡ (leb (getD xs i 0) (limit n i) && isRow (n - (i + 1)) (drop (i + 1) xs))
-row-step n i xs inside =
+row-step : (m n i : ℕ) (xs : List ℕ) → i < length xs → isRow m (n - i) (drop i xs) ≡ (leb (getD xs i 0) (limit m n i) && isRow m (n - (i + 1)) (drop (i + 1) xs))
+row-step m n i xs inside =
     ⊎-elim
-    (λ t. let e : n - i ≡ suc (n - (i + 1)) = omega arith in rw (t .1, drop-up xs i inside, e) (first-in _ _ _))
+    (λ t. let e : n - i ≡ suc (n - (i + 1)) = omega arith in rw (t .1, drop-up xs i inside, e) (first-in m _ _ _))
     (λ t.
     let e : n - i ≡ 0 = omega arith in
     let f : n - (i + 1) ≡ 0 = omega arith in
-    rw (t .1, drop-up xs i inside, e, f) (first-past _ _))
+    rw (t .1, drop-up xs i inside, e, f) (first-past m _ _))
     (lt-cases i n)
 
 -- a limit is one less than a power of two, so that two numbers are at most it where their `|` is
@@ -128,15 +128,15 @@ or-at-most k m a b e = go (leb a m) refl (leb b m) refl
     go false f q g = lt-leb (bitOr a b) m (omega (arith, leb-false a m f, or-add-and a b, and-le-r a b))
 
 -- the places from i on of both rows
-abbrev pub rowsFrom : ℕ → ℕ → List ℕ → List ℕ → Bool
-rowsFrom n i ls cs = isRow (n - i) (drop i ls) && isRow (n - i) (drop i cs)
+abbrev pub rowsFrom : ℕ → ℕ → ℕ → List ℕ → List ℕ → Bool
+rowsFrom m n i ls cs = isRow m (n - i) (drop i ls) && isRow m (n - i) (drop i cs)
 
-pub rows-step : (n i : ℕ) (ls cs : List ℕ) → i < length ls → i < length cs
-    → rowsFrom n i ls cs ≡ (leb (bitOr (getD ls i 0) (getD cs i 0)) (limit n i) && rowsFrom n (i + 1) ls cs)
-rows-step n i ls cs l c =
-    ap₂ _&&_ (row-step n i ls l) (row-step n i cs c)
-    ∙ regroup (leb x (limit n i)) (isRow (n - (i + 1)) (drop (i + 1) ls)) (leb y (limit n i)) (isRow (n - (i + 1)) (drop (i + 1) cs))
-    ∙ ap (λ (b : Bool). b && rowsFrom n (i + 1) ls cs) (sym (together (ltb i n)))
+pub rows-step : (k m n i : ℕ) (ls cs : List ℕ) → m + 1 ≡ 2 ^ k → i < length ls → i < length cs
+    → rowsFrom m n i ls cs ≡ (leb (bitOr (getD ls i 0) (getD cs i 0)) (limit m n i) && rowsFrom m n (i + 1) ls cs)
+rows-step k m n i ls cs e l c =
+    ap₂ _&&_ (row-step m n i ls l) (row-step m n i cs c)
+    ∙ regroup (leb x (limit m n i)) (isRow m (n - (i + 1)) (drop (i + 1) ls)) (leb y (limit m n i)) (isRow m (n - (i + 1)) (drop (i + 1) cs))
+    ∙ ap (λ (b : Bool). b && rowsFrom m n (i + 1) ls cs) (sym (together (ltb i n)))
   where
     x : ℕ
     x = getD ls i 0
@@ -144,15 +144,15 @@ rows-step n i ls cs l c =
     y : ℕ
     y = getD cs i 0
 
-    together : (b : Bool) → leb (bitOr x y) (cond b 4095 0) ≡ (leb x (cond b 4095 0) && leb y (cond b 4095 0))
-    together true = or-at-most 12 4095 x y refl
+    together : (b : Bool) → leb (bitOr x y) (cond b m 0) ≡ (leb x (cond b m 0) && leb y (cond b m 0))
+    together true = or-at-most k m x y e
     together false = or-at-most 0 0 x y refl
 
 -- ---- rows
 
-pub row-true : (n : ℕ) (xs : List ℕ) → isRow n xs ≡ true → allAtMost 4095 xs ≡ true
+pub row-true : (m n : ℕ) (xs : List ℕ) → isRow m n xs ≡ true → allAtMost m xs ≡ true
 unfolding isRow
-row-true n xs e = both (allAtMost 4095 xs) (allAtMost 0 (drop n xs)) e .0
+row-true m n xs e = both (allAtMost m xs) (allAtMost 0 (drop n xs)) e .0
 
 drop-below : {xs ys : List ℕ} (k : ℕ) → AtMost xs ys → AtMost (drop k xs) (drop k ys)
 drop-below zero p = p
@@ -160,25 +160,26 @@ drop-below (suc k) empty = empty
 drop-below (suc k) (more h p) = drop-below k p
 
 -- a row that is nowhere above a good row is good
-pub row-below : {xs ys : List ℕ} (n : ℕ) → AtMost xs ys → isRow n ys ≡ true → isRow n xs ≡ true
+pub row-below : {xs ys : List ℕ} (m n : ℕ) → AtMost xs ys → isRow m n ys ≡ true → isRow m n xs ≡ true
 unfolding isRow
-row-below {xs} {ys} n p e =
-    let t = both (allAtMost 4095 ys) (allAtMost 0 (drop n ys)) e in
-    rw (all-below 4095 p (t .0)) (all-below 0 (drop-below n p) (t .1))
-
-pub zeros-row : (n : ℕ) → isRow n (replicate 12 0) ≡ true
-unfolding isRow allAtMost
-zeros-row n = all-drop 0 n (replicate 12 0) refl
+row-below {xs} {ys} m n p e =
+    let t = both (allAtMost m ys) (allAtMost 0 (drop n ys)) e in
+    rw (all-below m p (t .0)) (all-below 0 (drop-below n p) (t .1))
 
 zeros-low : (m k : ℕ) → allAtMost m (replicate k 0) ≡ true
 unfolding allAtMost
 zeros-low m zero = refl
 zeros-low m (suc k) = rw (le-leb 0 m (omega arith)) (zeros-low m k)
 
-pub caps-row : (n : ℕ) → isRow n (replicate n 4095 ++ replicate (12 - n) 0) ≡ true
+pub zeros-row : (m n : ℕ) → isRow m n (replicate 12 0) ≡ true
 unfolding isRow
-caps-row n =
-    let full : List ℕ = replicate n 4095 in
+zeros-row m n = rw (zeros-low m 12, all-drop 0 n (replicate 12 0) (zeros-low 0 12)) refl
+
+-- m in each of n places
+pub full-row : (m n : ℕ) → isRow m n (replicate n m ++ replicate (12 - n) 0) ≡ true
+unfolding isRow
+full-row m n =
+    let full : List ℕ = replicate n m in
     let clear : List ℕ = replicate (12 - n) 0 in
-    rw (all-append 4095 n 4095 clear (le-refl 4095) (zeros-low 4095 (12 - n)), drop-at full clear n (length-replicate n 4095))
+    rw (all-append m n m clear (le-refl m) (zeros-low m (12 - n)), drop-at full clear n (length-replicate n m))
     (zeros-low 0 (12 - n))

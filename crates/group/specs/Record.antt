@@ -1,8 +1,8 @@
 -- Document 01, "Cells, ranks, levels": the group record and its rules. That there are twelve levels and twelve caps is in its type.
 --
 --   allAtMost m xs      no number is above m
---   isRow n xs          levels or caps: whole numbers 0 to 4,095, and 0 in the places beyond n
---   hasRows g           both rows of the record are such; a cap may be below the level of its cell
+--   isRow m n xs        whole numbers 0 to m, and 0 in the places beyond n
+--   hasRows g           levels and caps are such rows, up to 4,095; a cap may be below the level of its cell
 --   groupChecks g       the checks of a record: 1, 2
 --   opened n            levels 0, caps 4,095, not written
 --   noGroup             the all-zero record
@@ -23,11 +23,11 @@ unfoldable pub allAtMost : ℕ → List ℕ → Bool
 allAtMost m [] = true
 allAtMost m (x ∷ xs) = leb x m && allAtMost m xs
 
-unfoldable pub isRow : ℕ → List ℕ → Bool
-isRow n xs = allAtMost 4095 xs && allAtMost 0 (drop n xs)
+unfoldable pub isRow : ℕ → ℕ → List ℕ → Bool
+isRow m n xs = allAtMost m xs && allAtMost 0 (drop n xs)
 
 abbrev pub hasRows : Group → Bool
-hasRows g = isRow (g .n) (g .levels) && isRow (g .n) (g .caps)
+hasRows g = isRow 4095 (g .n) (g .levels) && isRow 4095 (g .n) (g .caps)
 
 abbrev pub groupChecks : Group → List (Bool × Refusal)
 groupChecks g = (isSize (g .n), Size) ∷ (hasRows g, NoGroup) ∷ []

@@ -3,18 +3,18 @@
 -- Assumes nothing.
 use Prim.Native.Nat.{ℕ, zero, suc}
 use mathlib.Core.Path.{_≡_, refl, sym, ap, _∙_}
-use mathlib.Core.Bool.{Bool, true, false, false≢true, cond, _&&_}
+use mathlib.Core.Bool.{Bool, true, false, false≢true, cond}
 use mathlib.Core.List.{List, [], _∷_, _++_}
 use mathlib.Core.Option.{none}
 use native.Mathlib.Omega.{arith}
 use lib.ListN.{replicate}
 use Rattle.order.specs.declared.Order.{Order}
 use Rattle.order.specs.declared.Refusal.{Refusal}
-use Rattle.order.specs.declared.Refusal.the-variants.{NoGroup, NoOrder, Worn}
+use Rattle.order.specs.declared.Refusal.the-variants.{NoOrder, Worn}
 use Rattle.order.specs.Refusals.{numberOf, ifDone, Told, answer}
 use Rattle.order.specs.Cells.{isOrder}
 use Rattle.order.specs.Order.{cellNumbers, listed, isOrderOf}
-use Rattle.order.proofs.Refusals.{all-hold, check-holds, check-fails, check-held, later-decide, all-held, sized-holds}
+use Rattle.order.proofs.Refusals.{check-fails, check-held, later-decide, all-held}
 use Rattle.order.proofs.Check.{listing-parts}
 use Rattle.coordinates.specs.Calls.{coordinateAt}
 use Rattle.coordinates.proofs.RoundTrip.{order-of-any}
@@ -24,15 +24,14 @@ use Rattle.code.proofs.Decoding.{exchange-order}
 use Rattle.group.specs.declared.Group.{Group}
 use Rattle.group.specs.Levels.{put, AtMost, rises, leaked}
 use Rattle.writing.specs.PushUp.{singles, Shows}
-use Rattle.group.specs.Record.{isRow, groupChecks, withLevels, withCaps, erased}
-use Rattle.writing.specs.Calls.{Program, writeChecks, pushArray, raised, fits, pushed, unpushed, writeOf}
+use Rattle.group.specs.Record.{groupChecks, withLevels, withCaps, erased}
+use Rattle.writing.specs.Calls.{Program, writeChecks, pushArray, raised, fits, pushChecks, pushed, unpushed, writeOf}
 use Rattle.group.specs.Calls.{cellChecks, wearChecks, leakOf, wearOf, eraseOf}
-use Rattle.group.proofs.Levels.{at-most-refl, at-most-length, at-most-true, rises-down, leaked-below}
+use Rattle.group.proofs.Levels.{at-most-refl, at-most-true, rises-down, leaked-below}
 use Rattle.writing.proofs.Orders.{order-shows}
-use Rattle.group.proofs.Rows.{row-below}
-use Rattle.group.proofs.Checks.{checked-size, checked-caps}
+use Rattle.group.proofs.Checks.{checked-size}
 use Rattle.group.proofs.Groups.{IsGroup, leak-group, wear-group, erase-group}
-use Rattle.writing.proofs.Writes.{write-group}
+use Rattle.writing.proofs.Writes.{push-held, group-pushed, write-group}
 use Rattle.sensing.proofs.Sensed.{sensed-order}
 use Rattle.plain_machine.specs.declared.Kind.{Kind}
 use Rattle.plain_machine.specs.declared.Kind.the-variants.{Write, Store, Scrub, Leak, Wear, Erase, Read}
@@ -120,28 +119,15 @@ same-group g c = rw (apply-number g c, apply-value g c) (go (numberOf (checks g 
 
 -- ---- a group stays a group
 
-pub push-group : (g : Group) (xs : List ℕ) → IsGroup g → fits g xs ≡ true → IsGroup (pushed g xs .group)
-unfolding pushed fits
-push-group g xs h e =
-    let low = at-most-true (raised g xs) (g .caps) e in
-    let size = checked-size g (h .passes) in
-    let caps = checked-caps g (h .passes) in
-    let levels : isRow (g .n) (raised g xs) ≡ true = row-below (g .n) low caps in
-    record {
-      passes = sized-holds (g .n) (isRow (g .n) (raised g xs) && isRow (g .n) (g .caps)) NoGroup (size .0) (size .1) (rw (levels, caps));
-      levels = at-most-length low ∙ h .caps;
-      caps = h .caps;
-    }
-
 group-by : (g : Group) (o : Order) (k : Kind) → IsGroup g → IsGroup (applyBy g o k .value .group)
 unfolding storeOf scrubOf answer
 group-by g o Write h = write-group g o h
 group-by g o (Store s) h =
     by-number (λ (p : Program). IsGroup (p .group)) (numberOf (storeChecks g s)) _ (unpushed g)
-    (λ e. push-group g _ h (check-held _ _ _ (check-held _ _ _ (all-held _ (groupChecks g) e .1) .1) .0)) h
+    (λ e. group-pushed g _ h (check-held _ _ _ (all-held _ (groupChecks g) e .1) .1)) h
 group-by g o Scrub h =
     by-number (λ (s : Step). IsGroup (s .group)) (numberOf (scrubChecks g)) _ (quiet g)
-    (λ e. push-group g _ h (check-held _ _ _ (all-held _ (readChecks g) e .1) .0)) h
+    (λ e. group-pushed g _ h (all-held _ (readChecks g) e .1)) h
 group-by g o (Leak c d) h = leak-group g c d h
 group-by g o (Wear c cap) h = wear-group g c cap h
 group-by g o Erase h = erase-group g h
@@ -155,7 +141,7 @@ apply-group g c h = group-by g (c .target) (c .kind) h
 
 module _ (g : Group) (c : Call) (w : writes (c .kind) ≡ true) where
   last : List (Bool × Refusal)
-  last = (fits g (target g c), Worn) ∷ []
+  last = pushChecks g (target g c)
 
   split : numberOf (checks g c) ≡ numberOf (earlierChecks g c ++ last)
   unfolding last
@@ -166,11 +152,11 @@ module _ (g : Group) (c : Call) (w : writes (c .kind) ≡ true) where
   unfolding last fits
   done-checks e =
       let t = all-held last (earlierChecks g c) (sym split ∙ e) in
-      (t .0, at-most-true _ _ (check-held (fits g (target g c)) Worn [] (t .1) .0))
+      (t .0, at-most-true _ _ (push-held g (target g c) (t .1)))
 
-  pub done-fits : numberOf (earlierChecks g c) ≡ 0 → fits g (target g c) ≡ true → numberOf (checks g c) ≡ 0
+  pub done-pushes : numberOf (earlierChecks g c) ≡ 0 → numberOf (pushChecks g (target g c)) ≡ 0 → numberOf (checks g c) ≡ 0
   unfolding last
-  done-fits e f = split ∙ later-decide last (earlierChecks g c) e ∙ check-holds Worn [] f ∙ all-hold
+  done-pushes e f = split ∙ later-decide last (earlierChecks g c) e ∙ f
 
   pub worn-beyond : numberOf (earlierChecks g c) ≡ 0 → fits g (target g c) ≡ false → numberOf (checks g c) ≡ 8
   unfolding last
@@ -194,7 +180,7 @@ pub target-shows : (g : Group) (c : Call) → IsGroup g → writes (c .kind) ≡
     → Shows 1 (singles (target g c)) (raised g (target g c))
 unfolding raised
 target-shows g c h w e =
-    order-shows (g .n) (target g c) (g .levels) (target-order g (c .target) (c .kind) w e)
+    order-shows 1 (g .n) (target g c) (g .levels) (target-order g (c .target) (c .kind) w e)
     (omega (arith, checked-size g (h .passes) .1, h .levels))
 
 -- ---- pulses are the sum of the rises

@@ -12,7 +12,7 @@ use mathlib.Core.Option.{none}
 use lib.Dec.{ltb}
 use Rattle.order.specs.declared.Order.{Order}
 use Rattle.order.specs.declared.Refusal.{Refusal}
-use Rattle.order.specs.declared.Refusal.the-variants.{NoOrder, NoSymbol, Worn}
+use Rattle.order.specs.declared.Refusal.the-variants.{NoOrder, NoSymbol}
 use Rattle.order.specs.Refusals.{ifDone, Told}
 use Rattle.order.specs.Order.{listed, isOrderOf}
 use Rattle.code.specs.Words.{K}
@@ -20,7 +20,7 @@ use Rattle.code.specs.Calls.{wordOf}
 use Rattle.group.specs.declared.Group.{Group}
 use Rattle.group.specs.Record.{groupChecks}
 use Rattle.group.specs.Calls.{cellChecks, wearChecks, leakOf, wearOf, eraseOf}
-use Rattle.writing.specs.Calls.{Program, fits, writeOf}
+use Rattle.writing.specs.Calls.{Program, pushChecks, writeOf}
 use Rattle.engine.specs.Calls.{readChecks, readOf, storeOf}
 use Rattle.engine.specs.Scrub.{Step, quiet, programmedStep, afterRead, wordFound, scrubOf}
 use Rattle.plain_machine.specs.declared.Kind.{Kind}
@@ -63,7 +63,7 @@ abbrev pub earlierChecks : Group → Call → List (Bool × Refusal)
 earlierChecks g c = earlierBy g (c .target) (c .kind)
 
 abbrev pub checksBy : Group → Order → Kind → List (Bool × Refusal)
-checksBy g o k = earlierBy g o k ++ cond (writes k) ((fits g (targetBy g o k), Worn) ∷ []) []
+checksBy g o k = earlierBy g o k ++ cond (writes k) (pushChecks g (targetBy g o k)) []
 
 abbrev pub checks : Group → Call → List (Bool × Refusal)
 checks g c = checksBy g (c .target) (c .kind)

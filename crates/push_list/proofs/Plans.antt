@@ -56,7 +56,7 @@ module _ (g : Group) (o : Order) where
   program-short : isOrderOf (g .n) o ≡ true → pushed g (listed o) .count ≤ g .n - 1
   unfolding pushed
   program-short e =
-      omega (arith, few-pushes (g .levels) (listed o), length-take (o .len) (cellNumbers o), listing-length (cellNumbers o) (o .len) (g .n) e)
+      omega (arith, few-pushes 1 (g .levels) (listed o), length-take (o .len) (cellNumbers o), listing-length (cellNumbers o) (o .len) (g .n) e)
 
   pub plan-fits : (room : ℕ) → (planOf g o room .value .count ≤ 11) × (planOf g o room .value .count ≤ room)
   unfolding planOf answer

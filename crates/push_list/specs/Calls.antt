@@ -11,18 +11,18 @@
 --   lendOf g o list room    the answer where the first `room` of twelve places are lent, all twelve where room is more
 use Prim.Native.Nat.{ℕ, _-_, min}
 use mathlib.Core.Bool.{Bool}
-use mathlib.Core.List.{List, [], _∷_, _++_}
+use mathlib.Core.List.{List, _∷_, _++_}
 use lib.Dec.{leb}
 use lib.ListN.{length, take, drop}
 use Rattle.order.specs.declared.Order.{Order}
 use Rattle.order.specs.declared.Refusal.{Refusal}
-use Rattle.order.specs.declared.Refusal.the-variants.{ListShort, NoOrder, Worn}
+use Rattle.order.specs.declared.Refusal.the-variants.{ListShort, NoOrder}
 use Rattle.order.specs.Refusals.{outcomeNumber, numberOf, ifDone, Told, answer}
 use Rattle.order.specs.Order.{listed, isOrderOf}
 use Rattle.group.specs.declared.Group.{Group}
 use Rattle.writing.specs.declared.Push.{Push}
 use Rattle.group.specs.Record.{groupChecks}
-use Rattle.writing.specs.Calls.{Program, fits, pushed, unpushed}
+use Rattle.writing.specs.Calls.{Program, pushChecks, pushed, unpushed}
 use Rattle.push_list.specs.declared.WrittenInto.{WrittenInto}
 use Rattle.push_list.specs.declared.Lent.{Lent}
 
@@ -30,7 +30,7 @@ use Rattle.push_list.specs.declared.Lent.{Lent}
 
 abbrev pub intoChecks : Group → Order → ℕ → List (Bool × Refusal)
 intoChecks g o room =
-    groupChecks g ++ (leb (g .n - 1) room, ListShort) ∷ (isOrderOf (g .n) o, NoOrder) ∷ (fits g (listed o), Worn) ∷ []
+    groupChecks g ++ (leb (g .n - 1) room, ListShort) ∷ (isOrderOf (g .n) o, NoOrder) ∷ pushChecks g (listed o)
 
 pub record Carried : Type 0 where
   pub group : Group

@@ -109,7 +109,7 @@ raise-peak old p c (d ∷ ds) s l =
 
 -- ---- the first cell is the highest
 
-falling-first : (xs ls : List ℕ) → Falling xs ls → (i : ℕ) → i < length xs → level ls (getD xs i 0) ≤ level ls (getD xs 0 0)
+falling-first : (xs ls : List ℕ) → Falling 1 xs ls → (i : ℕ) → i < length xs → level ls (getD xs i 0) ≤ level ls (getD xs 0 0)
 unfolding Falling
 falling-first xs ls f zero l = le-refl _
 falling-first xs ls f (suc i) l = omega (arith, f i l, falling-first xs ls f i (omega arith))
@@ -126,4 +126,4 @@ module _ (n : ℕ) (v : List ℕ) (q : isOrder n v ≡ true) where
   first-highest ls l c low high =
       let s = cell-stands c low high in
       let new = raise 1 (singles v) ls in
-      omega (arith, ap (level new) (s .there), falling-first v new (shows-falling v new (order-shows n v ls q l)) (s .index) (s .inside))
+      omega (arith, ap (level new) (s .there), falling-first v new (shows-falling 1 v new (order-shows 1 n v ls q l)) (s .index) (s .inside))

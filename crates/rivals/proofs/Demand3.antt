@@ -18,19 +18,19 @@ use Rattle.group.specs.declared.Group.{Group}
 use Rattle.group.specs.Levels.{AtMost, rises}
 use Rattle.group.specs.Record.{opened, noGroup}
 use Rattle.writing.specs.PushUp.{singles}
-use Rattle.writing.specs.Calls.{raised, fits, pushed}
+use Rattle.writing.specs.Calls.{raised, fits, pushChecks, pushed}
 use Rattle.group.specs.Calls.{openOf}
 use Rattle.group.proofs.Levels.{at-most-refl, at-most-trans, sum, sum-mono, rises-up, leaked-mono, leaked-loss}
 use Rattle.writing.proofs.Raise.{raise-above, raise-least}
 use Rattle.group.proofs.Groups.{IsGroup, open-group}
-use Rattle.writing.proofs.Writes.{fits-where}
+use Rattle.writing.proofs.Writes.{push-holds, fits-where}
 use Rattle.plain_machine.specs.declared.Kind.{Kind}
 use Rattle.plain_machine.specs.declared.Kind.the-variants.{Write, Store, Scrub, Leak, Wear, Erase, Read}
 use Rattle.plain_machine.specs.declared.Call.{Call}
 use Rattle.engine.specs.Scrub.{quiet}
 use Rattle.plain_machine.specs.Machine.{writes, targetBy, target, earlierChecks, applyOf, checks}
-use Rattle.rivals.specs.Rivals.{Rival, Raised, Follows, Moves, entrant, latest, after, pulsesOf, plainAfter, Course, rest, next, plain, own, Raisable, Demand3, MeetsDemand3}
-use Rattle.plain_machine.proofs.Machine.{acceptBy, accept, apply-number, apply-value, same-group, apply-group, target-shows, done-checks, done-fits, worn-beyond, apply-rises}
+use Rattle.rivals.specs.Rivals.{Rival, standing, Raised, Follows, Moves, entrant, latest, after, pulsesOf, plainAfter, Course, rest, next, plain, own, Raisable, Demand3, MeetsDemand3}
+use Rattle.plain_machine.proofs.Machine.{acceptBy, accept, apply-number, apply-value, same-group, apply-group, target-shows, done-checks, done-pushes, worn-beyond, apply-rises}
 
 -- the rival r beside the group g, whose answers have added up to q
 record Beside (g : Group) (q : ℕ) (r : Rival) : Type 0 where
@@ -53,13 +53,9 @@ beside-push g q r s t m b =
     }
 
 -- a rival that can be raised has room for our raise
-room : (g : Group) (q : ℕ) (r s : Rival) (t : List ℕ) → Beside g q r → Raised t r s → fits g t ≡ true
+room : (g : Group) (q : ℕ) (r s : Rival) (t : List ℕ) → Beside g q r → Raised t r s → numberOf (pushChecks g t) ≡ 0
 room g q r s t b m =
-    fits-where g t (s .levels) (at-most-trans (b .low) (m .no-lower)) (m .shows) (rw (m .same-caps ∙ b .caps) at (m .within))
-
--- our group with q pulses, as a rival
-abbrev ourselves : Group → ℕ → Rival
-ourselves g q = record { levels = g .levels; caps = g .caps; pulses = q }
+    push-holds g t (fits-where g t (s .levels) (at-most-trans (b .low) (m .no-lower)) (m .shows) (rw (m .same-caps ∙ b .caps) at (m .within)))
 
 -- the plain machine goes with us
 plain-step : (g : Group) (c : Call) → plainAfter (applyOf g c .number) g c ≡ applyOf g c .value .group
@@ -120,7 +116,7 @@ beside-course q e (next {g} {p} {r} {s} {c} m k) b =
 
 -- a write, store or scrub that is not refused is open to us
 our-raise : (g : Group) (q : ℕ) (c : Call) → IsGroup g → writes (c .kind) ≡ true → numberOf (checks g c) ≡ 0
-    → Raised (target g c) (ourselves g q) (ourselves (pushed g (target g c) .group) (q + pushed g (target g c) .pulses))
+    → Raised (target g c) (standing g q) (standing (pushed g (target g c) .group) (q + pushed g (target g c) .pulses))
 unfolding pushed raised
 our-raise g q c h w e =
     let t = done-checks g c w e in
@@ -133,7 +129,7 @@ our-raise g q c h w e =
     }
 
 our-accept : (g : Group) (q : ℕ) (o : Order) (k : Kind) → IsGroup g → numberOf (checks g (record { kind = k; target = o })) ≡ 0
-    → Follows k (targetBy g o k) (ourselves g q) (ourselves (acceptBy g o k .group) (q + acceptBy g o k .pulses))
+    → Follows k (targetBy g o k) (standing g q) (standing (acceptBy g o k .group) (q + acceptBy g o k .pulses))
 unfolding Follows
 our-accept g q o Write h e = our-raise g q (record { kind = Write; target = o }) h refl e
 our-accept g q o (Store s) h e = our-raise g q (record { kind = Store s; target = o }) h refl e
@@ -145,28 +141,28 @@ our-accept g q o Read h e = rw add-zero
 
 our-answer : (k : ℕ) (g : Group) (q : ℕ) (c : Call) → IsGroup g → numberOf (checks g c) ≡ k
     → let t = ifDone k (accept g c) (quiet g) in
-    Moves k (c .kind) (target g c) (ourselves g q) (ourselves (t .group) (q + t .pulses))
+    Moves k (c .kind) (target g c) (standing g q) (standing (t .group) (q + t .pulses))
 unfolding Moves
 our-answer zero g q c h e = our-accept g q (c .target) (c .kind) h e
 our-answer (suc k) g q c h e = rw add-zero
 
 our-step : (g : Group) (q : ℕ) (c : Call) → IsGroup g
-    → Moves (applyOf g c .number) (c .kind) (target g c) (ourselves g q)
-    (ourselves (applyOf g c .value .group) (q + rises (g .levels) (applyOf g c .value .group .levels)))
+    → Moves (applyOf g c .number) (c .kind) (target g c) (standing g q)
+    (standing (applyOf g c .value .group) (q + rises (g .levels) (applyOf g c .value .group .levels)))
 our-step g q c h = rw (apply-rises g c, apply-number g c, apply-value g c) (our-answer (numberOf (checks g c)) g q c h refl)
 
-our-course : (g : Group) (q : ℕ) (cs : List Call) → IsGroup g → Course applyOf g g (ourselves g q) cs (own applyOf g q cs)
+our-course : (g : Group) (q : ℕ) (cs : List Call) → IsGroup g → Course applyOf g g (standing g q) cs (own applyOf g q cs)
 unfolding own
 our-course g q [] h = rest
 our-course g q (c ∷ cs) h =
     let new = applyOf g c .value .group in
     let more = q + rises (g .levels) (new .levels) in
-    let later : Course applyOf new (plainAfter (applyOf g c .number) g c) (ourselves new more) cs (own applyOf new more cs) = rw (plain-step g c) (our-course new more cs (apply-group g c h)) in
+    let later : Course applyOf new (plainAfter (applyOf g c .number) g c) (standing new more) cs (own applyOf new more cs) = rw (plain-step g c) (our-course new more cs (apply-group g c h)) in
     next (our-step g q c h) later
 
 -- it ends at our group, with the pulses of our answers
 our-end : (g : Group) (q : ℕ) (cs : List Call)
-    → latest (ourselves g q) (own applyOf g q cs) ≡ ourselves (after applyOf g cs) (q + pulsesOf applyOf g cs)
+    → latest (standing g q) (own applyOf g q cs) ≡ standing (after applyOf g cs) (q + pulsesOf applyOf g cs)
 unfolding own latest after pulsesOf
 our-end g q [] = rw add-zero
 our-end g q (c ∷ cs) = our-end (applyOf g c .value .group) _ cs ∙ rw (apply-rises g c, add-assoc)
@@ -188,9 +184,9 @@ module _ (g : Group) (h : IsGroup g) (cs : List Call) where
   unfolding entrant
   side ss k = beside-course 0 refl k (record { caps = refl; low = at-most-refl (g .levels); cost = le-refl _ })
 
-  open-fits : (c : Call) → Open c → fits now (target now c) ≡ true
+  open-passes : (c : Call) → Open c → numberOf (pushChecks now (target now c)) ≡ 0
   unfolding Raisable
-  open-fits c k = room now _ _ (k .2) _ (side (k .0) (k .1)) (k .3)
+  open-passes c k = room now _ _ (k .2) _ (side (k .0) (k .1)) (k .3)
 
   done-open : (c : Call) → writes (c .kind) ≡ true → numberOf (checks now c) ≡ 0 → Open c
   unfolding Raisable entrant
@@ -198,13 +194,13 @@ module _ (g : Group) (h : IsGroup g) (cs : List Call) where
       (own applyOf g 0 cs, our-course g 0 cs h, _, rw (← our-end g 0 cs) at (our-raise now (0 + spent) c (group-after g cs h) w e))
 
   not-open : (c : Call) → writes (c .kind) ≡ true → numberOf (earlierChecks now c) ≡ 0 → applyOf now c .number ≡ 8 → ¬ (Open c)
-  not-open c w e is-worn k = absurd (omega (arith, is-worn, apply-number now c, done-fits now c w e (open-fits c k)))
+  not-open c w e is-worn k = absurd (omega (arith, is-worn, apply-number now c, done-pushes now c w e (open-passes c k)))
 
   shut-worn : (c : Call) → writes (c .kind) ≡ true → numberOf (earlierChecks now c) ≡ 0 → ¬ (Open c) → applyOf now c .number ≡ 8
   shut-worn c w e shut = apply-number now c ∙ by-caps (fits now (target now c)) refl
     where
       by-caps : (b : Bool) → fits now (target now c) ≡ b → numberOf (checks now c) ≡ 8
-      by-caps true f = absurd (shut (done-open c w (done-fits now c w e f)))
+      by-caps true f = absurd (shut (done-open c w (done-pushes now c w e (push-holds now (target now c) f))))
       by-caps false f = worn-beyond now c w e f
 
   pub demand3 : Demand3 applyOf g cs

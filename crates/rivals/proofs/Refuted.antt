@@ -14,6 +14,7 @@ use Rattle.order.specs.Cells.{eachOnce, isOrder, allZero, isListing}
 use Rattle.order.specs.Order.{cellNumbers, orderRecord}
 use Rattle.group.specs.Levels.{level, put, AtMost, atMost, rises}
 use Rattle.writing.specs.PushUp.{singles, top, floorOver, Reach, Shows, lift, raise}
+use Rattle.group.specs.declared.Group.{Group}
 use Rattle.group.specs.Record.{allAtMost, isRow, opened, withLevels}
 use Rattle.writing.specs.Calls.{raised, fits, pushed, writeOf}
 use Rattle.group.specs.Calls.{wearOf}
@@ -23,6 +24,10 @@ use Rattle.plain_machine.specs.declared.Call.{Call}
 use Rattle.engine.specs.Scrub.{Step, quiet}
 use Rattle.plain_machine.specs.Machine.{writes, target, applyOf}
 use Rattle.rivals.specs.Rivals.{Rival, Raised, Follows, Moves, entrant, latest, Machine, after, pulsesOf, plain, plainAfter, rest, next, Raisable, Demand3, own}
+
+-- the machines start from a new group of 3 cells
+abbrev pub start : Group
+start = opened 3
 
 abbrev pub order : Order
 order = orderRecord (1 ∷ 2 ∷ 3 ∷ [])
@@ -35,9 +40,9 @@ abbrev least : List ℕ
 least = 2 ∷ 1 ∷ 0 ∷ replicate 9 0
 
 abbrev course : Rival
-course = record { levels = least; caps = opened 3 .caps; pulses = 3 }
+course = record { levels = least; caps = start .caps; pulses = 3 }
 
-course-raised : Raised (target (opened 3) call) (entrant (opened 3)) course
+course-raised : Raised (target start call) (entrant start) course
 unfolding entrant orderRecord cellNumbers singles Shows Reach floorOver top atMost rises level
 course-raised =
     record {
@@ -50,18 +55,18 @@ course-raised =
 
 module _ (run : Machine) where
   -- it says worn where a rival can be raised
-  worn-refuted : run (opened 3) call .number ≡ 8 → ¬ (Demand3 run (opened 3) [])
+  worn-refuted : run start call .number ≡ 8 → ¬ (Demand3 run start [])
   unfolding Raisable latest after plain numberOf isRow allAtMost orderRecord cellNumbers isListing isOrder eachOnce allZero
   worn-refuted e d = d .worn-exactly call refl refl .0 e ([], rest, course, course-raised)
 
   -- it goes higher than the plain machine does
-  high-refuted : run (opened 3) call .number ≡ 0 → ¬ (AtMost (run (opened 3) call .value .group .levels) least)
-      → ¬ (Demand3 run (opened 3) (call ∷ []))
+  high-refuted : run start call .number ≡ 0 → ¬ (AtMost (run start call .value .group .levels) least)
+      → ¬ (Demand3 run start (call ∷ []))
   unfolding latest after Moves Follows
   high-refuted e high d = high (d .lowest (course ∷ []) (next (rw e course-raised) rest))
 
   -- it reports more pulses
-  dear-refuted : run (opened 3) call .number ≡ 0 → 3 < run (opened 3) call .value .pulses → ¬ (Demand3 run (opened 3) (call ∷ []))
+  dear-refuted : run start call .number ≡ 0 → 3 < run start call .value .pulses → ¬ (Demand3 run start (call ∷ []))
   unfolding latest pulsesOf Moves Follows
   dear-refuted e dear d = let spent = d .cheapest (course ∷ []) (next (rw e course-raised) rest) in omega arith
 
@@ -71,12 +76,12 @@ module _ (run : Machine) where
 pub quitter : Machine
 quitter g c = record { number = 8; value = quiet g }
 
-pub quitter-refuted : ¬ (Demand3 quitter (opened 3) [])
+pub quitter-refuted : ¬ (Demand3 quitter start [])
 unfolding quitter
 quitter-refuted = worn-refuted quitter refl
 
 -- what the plain machine answers to that write
-plain-answer : let t = applyOf (opened 3) call in (t .number ≡ 0) × (t .value .group .levels ≡ least) × (t .value .pulses ≡ 3)
+plain-answer : let t = applyOf start call in (t .number ≡ 0) × (t .value .group .levels ≡ least) × (t .value .pulses ≡ 3)
 unfolding applyOf writeOf answer pushed rises numberOf isRow allAtMost orderRecord cellNumbers isListing isOrder eachOnce allZero fits raised raise lift singles floorOver top level put atMost
 plain-answer = (refl, refl, refl)
 
@@ -101,7 +106,7 @@ altered levels pulses t =
 pub eager : Machine
 eager g c = altered (λ ls. put ls 1 (level ls 1 + 1)) (λ k. k + 1) (applyOf g c)
 
-pub eager-refuted : ¬ (Demand3 eager (opened 3) (call ∷ []))
+pub eager-refuted : ¬ (Demand3 eager start (call ∷ []))
 unfolding eager level put
 eager-refuted = high-refuted eager (plain-answer .0) (λ p. let high = rw (plain-answer .1) at (at-most-level 1 p) in omega arith)
 
@@ -109,7 +114,7 @@ eager-refuted = high-refuted eager (plain-answer .0) (λ p. let high = rw (plain
 pub boaster : Machine
 boaster g c = altered (λ ls. ls) (λ k. k + 1) (applyOf g c)
 
-pub boaster-refuted : ¬ (Demand3 boaster (opened 3) (call ∷ []))
+pub boaster-refuted : ¬ (Demand3 boaster start (call ∷ []))
 unfolding boaster
 boaster-refuted = dear-refuted boaster (plain-answer .0) (rw (plain-answer .2) (lit< tt))
 
@@ -117,7 +122,7 @@ boaster-refuted = dear-refuted boaster (plain-answer .0) (rw (plain-answer .2) (
 pub silent : Machine
 silent g c = altered (λ ls. ls) (λ k. 0) (applyOf g c)
 
-pub silent-refuted : ¬ (Demand3 silent (opened 3) (call ∷ []))
+pub silent-refuted : ¬ (Demand3 silent start (call ∷ []))
 unfolding silent own latest entrant pulsesOf rises
 silent-refuted d = let e = rw (plain-answer .1) at (d .exact) in omega arith
 
@@ -130,9 +135,9 @@ abbrev pub worn-call : Call
 worn-call = record { kind = Wear (record { 0 = 1 }) 2; target = order }
 
 abbrev worn-course : Rival
-worn-course = record { levels = least; caps = put (opened 3 .caps) 1 2; pulses = 3 }
+worn-course = record { levels = least; caps = put (start .caps) 1 2; pulses = 3 }
 
-pub hasty-refuted : ¬ (Demand3 hasty (opened 3) (call ∷ worn-call ∷ []))
+pub hasty-refuted : ¬ (Demand3 hasty start (call ∷ worn-call ∷ []))
 unfolding hasty Raisable latest after plain plainAfter entrant Moves Follows applyOf writeOf wearOf answer pushed rises numberOf isRow allAtMost orderRecord cellNumbers isListing isOrder eachOnce allZero fits raised raise lift singles floorOver top level put atMost Shows Reach
 hasty-refuted d =
     d .worn-exactly call refl refl .0 refl (

@@ -14,7 +14,7 @@ use borrow.Author.Tests.{lt-ltb, le-ltb}
 use Rattle.code.specs.Calls.{wordOf}
 use Rattle.order.specs.declared.Order.{Order}
 use Rattle.order.specs.declared.Refusal.{Refusal}
-use Rattle.order.specs.declared.Refusal.the-variants.{Blank, Lost, Worn}
+use Rattle.order.specs.declared.Refusal.the-variants.{Blank, Lost}
 use Rattle.order.specs.Refusals.{refusalNumber, numberOf, ifDone, answer, isSize}
 use Rattle.order.specs.Cells.{eachOnce, isOrder, allZero, isListing, tabulate, placeOf}
 use Rattle.order.specs.Order.{cellNumbers, listed, isOrderOf, orderRecord, noOrder}
@@ -37,7 +37,7 @@ use Rattle.group.specs.declared.Group.{Group}
 use Rattle.group.specs.Levels.{level, put, AtMost, empty, more, atMost}
 use Rattle.writing.specs.PushUp.{singles, top, floorOver, Shows, lift, raise}
 use Rattle.group.specs.Record.{allAtMost, isRow, groupChecks, opened}
-use Rattle.writing.specs.Calls.{raised, fits, pushed, writeOf}
+use Rattle.writing.specs.Calls.{raised, fits, pushChecks, pushed, writeOf}
 use Rattle.group.specs.Calls.{wearOf}
 use Rattle.group.proofs.Levels.{at-most-refl, at-most-true}
 use Rattle.writing.proofs.Raise.{Each}
@@ -45,7 +45,7 @@ use Rattle.group.proofs.Checks.{checked-size}
 use Rattle.sensing.proofs.Sensed.{sensed-back}
 use Rattle.writing.proofs.Orders.{Falling, falling-shows, order-shows}
 use Rattle.group.proofs.Groups.{IsGroup}
-use Rattle.writing.proofs.Writes.{fits-where}
+use Rattle.writing.proofs.Writes.{push-held, push-holds, group-pushed, fits-where}
 use Rattle.plain_machine.specs.declared.Kind.{Kind}
 use Rattle.plain_machine.specs.declared.Kind.the-variants.{Write, Store, Scrub, Leak, Wear, Erase, Read}
 use Rattle.plain_machine.specs.declared.Call.{Call}
@@ -53,7 +53,7 @@ use Rattle.engine.specs.Calls.{sensedOrder, placeRead}
 use Rattle.engine.specs.Scrub.{Step, quiet, wordFound, scrubChecks}
 use Rattle.plain_machine.specs.Machine.{applyOf, checksBy, checks}
 use Rattle.rivals.specs.Rivals.{after}
-use Rattle.plain_machine.proofs.Machine.{accept, apply-number, apply-value, push-group, done-fits}
+use Rattle.plain_machine.proofs.Machine.{accept, apply-number, apply-value, done-pushes}
 use Rattle.rivals.proofs.Demand3.{group-after, opened-group}
 
 -- ---- the numbers 1 and 2 never come
@@ -137,7 +137,7 @@ module _ (n : ℕ) (size : isSize n ≡ true) (xs : List ℕ) (t : isOrder n xs 
   stair-shows : Shows 1 (singles xs) stair
   unfolding Falling
   stair-shows =
-      falling-shows xs stair
+      falling-shows 1 xs stair
       (λ i l. let m : suc i < n = omega (arith, order-true n xs t .size) in omega (arith, stair-level i (omega arith), stair-level (suc i) m))
 
   stair-low : (k : ℕ) → k < n → height k ≤ 4095
@@ -148,15 +148,16 @@ module _ (n : ℕ) (size : isSize n ≡ true) (xs : List ℕ) (t : isOrder n xs 
   unfolding height
   stair-past k l = rw (le-ltb k n l)
 
-  opened-fits : fits (opened n) xs ≡ true
+  opened-passes : numberOf (pushChecks (opened n) xs) ≡ 0
   unfolding stair
-  opened-fits =
-      fits-where (opened n) xs stair (zeros-under 12 height) stair-shows
-      (under-caps n (12 - n) 12 height (omega (arith, size-true n size .1)) stair-low stair-past)
+  opened-passes =
+      push-holds (opened n) xs
+      (fits-where (opened n) xs stair (zeros-under 12 height) stair-shows
+      (under-caps n (12 - n) 12 height (omega (arith, size-true n size .1)) stair-low stair-past))
 
 -- ---- a group that was stored to can be scrubbed
 
-module _ (g : Group) (h : IsGroup g) (s : ℕ) (l : s < K (g .n)) (f : fits g (wordOf (g .n) s) ≡ true) where
+module _ (g : Group) (h : IsGroup g) (s : ℕ) (l : s < K (g .n)) (f : numberOf (pushChecks g (wordOf (g .n) s)) ≡ 0) where
   abbrev word : List ℕ
   word = wordOf (g .n) s
 
@@ -170,7 +171,7 @@ module _ (g : Group) (h : IsGroup g) (s : ℕ) (l : s < K (g .n)) (f : fits g (w
   -- it reads the codeword
   stored-shows : Shows 1 (singles word) (stored .levels)
   unfolding pushed raised
-  stored-shows = order-shows (g .n) word (g .levels) word-order (omega (arith, checked-size g (h .passes), h .levels))
+  stored-shows = order-shows 1 (g .n) word (g .levels) word-order (omega (arith, checked-size g (h .passes), h .levels))
 
   stored-sensed : sensedOrder stored ≡ word
   unfolding pushed
@@ -183,23 +184,23 @@ module _ (g : Group) (h : IsGroup g) (s : ℕ) (l : s < K (g .n)) (f : fits g (w
       rw stored-sensed (reads-clean (g .n) word word-order pos .1 (symbol-codeword (g .n) pos s l))
 
   -- which is within the caps already
-  stored-fits : fits stored (wordFound stored) ≡ true
+  found-passes : numberOf (pushChecks stored (wordFound stored)) ≡ 0
   unfolding pushed fits
-  stored-fits =
+  found-passes =
       rw (stored-clean, stored-sensed)
-      (fits-where stored word (stored .levels) (at-most-refl (stored .levels)) stored-shows (at-most-true (raised g word) (g .caps) f))
+      (push-holds stored word
+      (fits-where stored word (stored .levels) (at-most-refl (stored .levels)) stored-shows (at-most-true (raised g word) (g .caps) (push-held g word f))))
 
   stored-passes : numberOf (groupChecks stored) ≡ 0
-  stored-passes = push-group g word h f .passes
+  stored-passes = group-pushed g word h f .passes
 
   scrub-done : numberOf (scrubChecks stored) ≡ 0
   unfolding pushed
   scrub-done =
       later-decide _ (groupChecks stored) stored-passes
       ∙ check-holds Blank _ refl
-      ∙ check-holds Lost ((fits stored (wordFound stored), Worn) ∷ []) (lt-ltb (placeRead stored) (g .n) (omega (arith, stored-clean, checked-size g (h .passes))))
-      ∙ check-holds Worn [] stored-fits
-      ∙ all-hold
+      ∙ check-holds Lost (pushChecks stored (wordFound stored)) (lt-ltb (placeRead stored) (g .n) (omega (arith, stored-clean, checked-size g (h .passes))))
+      ∙ found-passes
 
 -- ---- first calls
 
@@ -230,7 +231,7 @@ module _ (n : ℕ) (size : isSize n ≡ true) where
   pub first-write : (o : Order) → isOrderOf n o ≡ true → applyOf (opened n) (writing o) .number ≡ 0
   first-write o t =
       apply-number (opened n) (writing o)
-      ∙ done-fits (opened n) (writing o) refl (one-check _ _ t) (opened-fits n size (listed o) (listing-parts (cellNumbers o) (o .len) n t .0))
+      ∙ done-pushes (opened n) (writing o) refl (one-check _ _ t) (opened-passes n size (listed o) (listing-parts (cellNumbers o) (o .len) n t .0))
 
   -- such an order is there: 1 to n
   pub some-order : isOrderOf n (orderRecord (orderFrom (λ i. 0) n)) ≡ true
@@ -251,12 +252,12 @@ module _ (n : ℕ) (size : isSize n ≡ true) where
       omega (arith, number-below n (omega arith) x (of-word n x w))
 
   module _ (s : ℕ) (l : s < K n) where
-    word-fits : fits (opened n) (wordOf n s) ≡ true
+    word-passes : numberOf (pushChecks (opened n) (wordOf n s)) ≡ 0
     unfolding wordOf
-    word-fits = opened-fits n size (wordOf n s) (order-of-any (coordinateAt (wordAt n s)) n)
+    word-passes = opened-passes n size (wordOf n s) (order-of-any (coordinateAt (wordAt n s)) n)
 
     store-checks : numberOf (checks (opened n) (storing s)) ≡ 0
-    store-checks = done-fits (opened n) (storing s) refl (one-check _ _ (lt-ltb s (K n) l)) word-fits
+    store-checks = done-pushes (opened n) (storing s) refl (one-check _ _ (lt-ltb s (K n) l)) word-passes
 
     pub first-store : applyOf (opened n) (storing s) .number ≡ 0
     first-store = apply-number (opened n) (storing s) ∙ store-checks
@@ -268,7 +269,7 @@ module _ (n : ℕ) (size : isSize n ≡ true) where
         let g = pushed (opened n) (wordOf n s) .group in
         let same : after applyOf (opened n) (storing s ∷ []) ≡ g = ap (λ (v : Step). v .group) (apply-value (opened n) (storing s)) ∙ ap (λ (k : ℕ). ifDone k (accept (opened n) (storing s)) (quiet (opened n)) .group) store-checks in
         rw same
-        (apply-number g scrubbing ∙ scrub-done (opened n) (opened-group n size) s l word-fits)
+        (apply-number g scrubbing ∙ scrub-done (opened n) (opened-group n size) s l word-passes)
 
 -- ---- and worn is given: cell 1 capped at 1 can't stand above cell 2, which stands above cell 3
 

@@ -4,18 +4,18 @@
 use Prim.Native.Nat.{ℕ, zero, suc, _+_, _-_, _≤_, _<_}
 use native.Mathlib.Omega.{arith}
 use mathlib.Core.Path.{_≡_, sym, ap, _∙_}
-use mathlib.Core.Bool.{true, _&&_}
+use mathlib.Core.Bool.{true}
 use mathlib.Core.List.{List, _++_}
 use lib.ListN.{length, replicate}
 use lib.IntN.{subℕ}
 use Rattle.order.specs.declared.Order.{Order}
-use Rattle.order.specs.declared.Refusal.the-variants.{NoGroup, NoOrder, Worn}
+use Rattle.order.specs.declared.Refusal.the-variants.{NoOrder}
 use Rattle.order.specs.Refusals.{numberOf, answer}
 use Rattle.order.specs.Cells.{tabulate, placeOf, isOrder}
 use Rattle.order.specs.Order.{cellNumbers, listed, isOrderOf, pairChecks}
 use Rattle.order.proofs.Cells.{order-true}
 use Rattle.order.proofs.Check.{listing-parts}
-use Rattle.order.proofs.Refusals.{later-decide, check-holds, all-hold, sized-holds}
+use Rattle.order.proofs.Refusals.{later-decide, check-holds}
 use Rattle.order.proofs.Records.{passed}
 use Rattle.order.proofs.Pairs.{listing-length, same-length, passed-second, pair-size, first-order, second-order}
 use Rattle.cost.specs.Cost.{cost, costOf}
@@ -23,13 +23,13 @@ use Rattle.cost.proofs.Costs.{rank-high}
 use Rattle.group.specs.declared.Group.{Group}
 use Rattle.group.specs.Levels.{AtMost, more}
 use Rattle.writing.specs.PushUp.{singles, Shows}
-use Rattle.group.specs.Record.{isRow, groupChecks}
+use Rattle.group.specs.Record.{groupChecks}
 use Rattle.writing.specs.Calls.{raised, pushed, writeOf}
 use Rattle.group.proofs.Levels.{at-most-refl, at-most-trans}
-use Rattle.group.proofs.Rows.{row-below, caps-row}
-use Rattle.group.proofs.Checks.{checked-size}
+use Rattle.group.proofs.Rows.{row-below, full-row}
+use Rattle.group.proofs.Checks.{rules-hold, checked-size}
 use Rattle.writing.proofs.Orders.{Falling, falling-shows}
-use Rattle.writing.proofs.Writes.{write-accepted, fits-where}
+use Rattle.writing.proofs.Writes.{push-holds, write-accepted, fits-where}
 use Rattle.rivals.proofs.Climb.{cell-stands}
 use Rattle.rivals.specs.Rise.{topLevel, written, Staircase}
 use Rattle.rivals.proofs.CostRise.{stairs, length-stairs, stairs-at, stairs-fall, cost-is-rise}
@@ -99,7 +99,7 @@ module _ (n : ℕ) (u v : List ℕ) (p : isOrder n u ≡ true) (q : isOrder n v 
   stairs-show : Shows 1 (singles v) (stairs (n + n) n v)
   unfolding Falling
   stairs-show =
-      falling-shows v (stairs (n + n) n v)
+      falling-shows 1 v (stairs (n + n) n v)
       (λ i l.
       let m : suc i < n = omega (arith, order-true n v q .size) in
       omega (arith, stairs-at n v q (n + n) (suc i) m, stairs-at n v q (n + n) i (omega arith)))
@@ -114,14 +114,13 @@ stairs-written u v d =
     let p = first-order u v c in
     let q = second-order u v c in
     let caps : List ℕ = replicate n 4095 ++ replicate (12 - n) 0 in
-    let start = row-below n (start-low n (listed u) (listed v) p q (size .1)) (caps-row n) in
+    let start = row-below 4095 n (start-low n (listed u) (listed v) p q (size .1)) (full-row 4095 n) in
     let target : isOrderOf n v ≡ true = ap (λ (k : ℕ). isOrderOf k v) (sym (same-length u v c)) ∙ passed v (passed-second u v c) .2 in
-    later-decide _ (groupChecks (stairGroup u)) (sized-holds n (isRow n (stairs n n (listed u)) && isRow n caps) NoGroup (size .0) (size .1) (rw (start, caps-row n)))
+    later-decide _ (groupChecks (stairGroup u)) (rules-hold (stairGroup u) (record { small = size .0; large = size .1; levels = start; caps = full-row 4095 n }))
     ∙ check-holds NoOrder _ target
-    ∙ check-holds Worn _
+    ∙ push-holds (stairGroup u) (listed v)
     (fits-where (stairGroup u) (listed v) (stairs (n + n) n (listed v)) (stairs-above n (listed u) (listed v) p q (size .1)) (stairs-show n (listed u) (listed v) p q (size .1))
     (stairs-low n (listed u) (listed v) p q (size .1)))
-    ∙ all-hold
 
 -- so wherever `cost` answers, its answer is such a rise
 pub cost-answer-is-rise : (u v : Order) → costOf u v .number ≡ 0

@@ -5,6 +5,8 @@
 -- the pushes are fixed by the contracts alone.
 --
 --   Rival               a rival at one moment: levels and caps, as a group has them, and its pulses
+--   standing g q        our group, with q pulses so far, as a rival stands
+--   lowered r ls, capped r cs    the rival with other levels, or other caps
 --   Raised t r s        at an accepted write, store or scrub of target t it comes from r to s: it raises any cells by any amounts and lowers
 --                       none; then the target shows in its levels, and no level is above its cap; its pulses grow by the sum of these rises
 --   Follows k t r s     what it does at an accepted call of kind k and target t
@@ -44,6 +46,15 @@ pub record Rival : Type 0 where
   pub caps : List ℕ
   pub pulses : ℕ
 
+abbrev pub standing : Group → ℕ → Rival
+standing g q = record { levels = g .levels; caps = g .caps; pulses = q }
+
+abbrev pub lowered : Rival → List ℕ → Rival
+lowered r ls = record { levels = ls; caps = r .caps; pulses = r .pulses }
+
+abbrev pub capped : Rival → List ℕ → Rival
+capped r cs = record { levels = r .levels; caps = cs; pulses = r .pulses }
+
 pub record Raised (t : List ℕ) (r s : Rival) : Type 0 where
   pub no-lower : AtMost (r .levels) (s .levels)
   pub shows : Shows 1 (singles t) (s .levels)
@@ -55,9 +66,9 @@ unfoldable pub Follows : Kind → List ℕ → Rival → Rival → Type 0
 Follows Write t r s = Raised t r s
 Follows (Store symbol) t r s = Raised t r s
 Follows Scrub t r s = Raised t r s
-Follows (Leak c d) t r s = s ≡ record { levels = leaked (c .0) d (r .levels); caps = r .caps; pulses = r .pulses }
-Follows (Wear c cap) t r s = s ≡ record { levels = r .levels; caps = put (r .caps) (c .0) cap; pulses = r .pulses }
-Follows Erase t r s = s ≡ record { levels = replicate 12 0; caps = r .caps; pulses = r .pulses }
+Follows (Leak c d) t r s = s ≡ lowered r (leaked (c .0) d (r .levels))
+Follows (Wear c cap) t r s = s ≡ capped r (put (r .caps) (c .0) cap)
+Follows Erase t r s = s ≡ lowered r (replicate 12 0)
 Follows Read t r s = s ≡ r
 
 unfoldable pub Moves : ℕ → Kind → List ℕ → Rival → Rival → Type 0
@@ -65,7 +76,7 @@ Moves zero k t r s = Follows k t r s
 Moves (suc number) k t r s = s ≡ r
 
 unfoldable pub entrant : Group → Rival
-entrant g = record { levels = g .levels; caps = g .caps; pulses = 0 }
+entrant g = standing g 0
 
 unfoldable pub latest : Rival → List Rival → Rival
 latest r [] = r
@@ -106,7 +117,7 @@ module _ (run : Machine) where
   own g q (c ∷ cs) =
       let h = run g c .value .group in
       let more = q + rises (g .levels) (h .levels) in
-      record { levels = h .levels; caps = h .caps; pulses = more } ∷ own h more cs
+      standing h more ∷ own h more cs
 
   unfoldable pub Raisable : Group → List Call → List ℕ → Type 0
   Raisable g cs t = (ss : List Rival) × IsRival g cs ss × (s : Rival) × Raised t (latest (entrant g) ss) s

@@ -38,7 +38,7 @@ rises-most (x ∷ xs) (y ∷ ys) h =
 begun-levels : (g : Group) → Begun g → (allAtMost 4095 (g .levels) ≡ true) × (length (g .levels) ≡ 12)
 unfolding allAtMost
 begun-levels g (inl e) = rw e (refl, refl)
-begun-levels g (inr h) = (row-true (g .n) (g .levels) (checked-levels g (h .passes)), h .levels)
+begun-levels g (inr h) = (row-true 4095 (g .n) (g .levels) (checked-levels g (h .passes)), h .levels)
 
 request-pulses : (g : Group) (q : Request) → Begun g → stepBy g q .value .pulses ≤ 49140
 request-pulses g Bad b = omega arith

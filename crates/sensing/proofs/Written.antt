@@ -31,7 +31,7 @@ write-sensed g o h w e =
     let n = listing-length (cellNumbers o) (o .len) (g .n) (t .1) in
     let parts = listing-parts (cellNumbers o) (o .len) (g .n) (t .1) in
     let size = checked-size g (h .passes) in
-    let shows = order-shows (g .n) (listed o) (g .levels) (parts .0) (omega (arith, h .levels)) in
+    let shows = order-shows 1 (g .n) (listed o) (g .levels) (parts .0) (omega (arith, h .levels)) in
     let back : sensed (g .n) (raised g (listed o)) ≡ listed o = sensed-back (g .n) (listed o) (raised g (listed o)) (parts .0) shows in
     let same : orderRecord (listed o) ≡ o = record-back o (sized-holds (o .len) (isOrderOf (o .len) o) NoOrder (omega arith) (omega arith) (ap (λ (k : ℕ). isOrderOf k o) n ∙ t .1)) w in
     rw (t .3) (sym (told-done _ _ _ (after .passes)) ∙ ap (λ (x : Order). record { number = 0; value = x }) (ap orderRecord back ∙ same))

@@ -1,6 +1,6 @@
 -- Orders as targets of a push-up: their cells stand apart, so that the push-up shows them, and what showing says.
 -- Assumes nothing.
-use Prim.Native.Nat.{ℕ, zero, suc, _≤_, _<_}
+use Prim.Native.Nat.{_+_, ℕ, zero, suc, _≤_, _<_}
 use mathlib.Core.Path.{_≡_, refl}
 use mathlib.Core.Bool.{true}
 use mathlib.Core.Logic.{_↔_, ⊎-elim}
@@ -84,25 +84,26 @@ cells-apart m (c ∷ cs) l s = (((omega (arith, first-low s, first-high s), cell
 
 -- ---- an order shows after its push-up
 
-pub order-shows : (n : ℕ) (xs ls : List ℕ) → isOrder n xs ≡ true → n ≤ length ls → Shows 1 (singles xs) (raise 1 (singles xs) ls)
-order-shows n xs ls e l = raise-shows 1 (singles xs) ls (cells-apart (length ls) xs l (order-cells n xs (order-true n xs e)))
+pub order-shows : (gap n : ℕ) (xs ls : List ℕ) → isOrder n xs ≡ true → n ≤ length ls → Shows gap (singles xs) (raise gap (singles xs) ls)
+order-shows gap n xs ls e l = raise-shows gap (singles xs) ls (cells-apart (length ls) xs l (order-cells n xs (order-true n xs e)))
 
--- an order shows when the levels fall strictly along it
-unfoldable pub Falling : List ℕ → List ℕ → Type 0
-Falling xs ls = (i : ℕ) → suc i < length xs → level ls (getD xs (suc i) 0) < level ls (getD xs i 0)
+-- an order shows when the levels fall along it, each time by the gap or more: with gap 1, strictly
+unfoldable pub Falling : ℕ → List ℕ → List ℕ → Type 0
+Falling gap xs ls = (i : ℕ) → suc i < length xs → level ls (getD xs (suc i) 0) + gap ≤ level ls (getD xs i 0)
 
-pub shows-falling : (xs ls : List ℕ) → Shows 1 (singles xs) ls → Falling xs ls
-unfolding singles Shows Reach floorOver top Falling
-shows-falling [] ls s i l = absurd (not-suc-le-zero l)
-shows-falling (c ∷ []) ls s i l = absurd (not-suc-le-zero (le-of-suc-le-suc l))
-shows-falling (c ∷ d ∷ ds) ls s zero l = omega (arith, s .0 .0)
-shows-falling (c ∷ d ∷ ds) ls s (suc i) l = shows-falling (d ∷ ds) ls (s .1) i (le-of-suc-le-suc l)
+module _ (gap : ℕ) where
+  pub shows-falling : (xs ls : List ℕ) → Shows gap (singles xs) ls → Falling gap xs ls
+  unfolding singles Shows Reach floorOver top Falling
+  shows-falling [] ls s i l = absurd (not-suc-le-zero l)
+  shows-falling (c ∷ []) ls s i l = absurd (not-suc-le-zero (le-of-suc-le-suc l))
+  shows-falling (c ∷ d ∷ ds) ls s zero l = omega (arith, s .0 .0)
+  shows-falling (c ∷ d ∷ ds) ls s (suc i) l = shows-falling (d ∷ ds) ls (s .1) i (le-of-suc-le-suc l)
 
-pub falling-shows : (xs ls : List ℕ) → Falling xs ls → Shows 1 (singles xs) ls
-unfolding singles Shows Reach floorOver top Falling
-falling-shows [] ls f = tt
-falling-shows (c ∷ []) ls f = ((omega arith, tt), tt)
-falling-shows (c ∷ d ∷ ds) ls f = ((omega (arith, f 0 (omega arith)), tt), falling-shows (d ∷ ds) ls (λ i l. f (suc i) (omega arith)))
+  pub falling-shows : (xs ls : List ℕ) → Falling gap xs ls → Shows gap (singles xs) ls
+  unfolding singles Shows Reach floorOver top Falling
+  falling-shows [] ls f = tt
+  falling-shows (c ∷ []) ls f = ((omega arith, tt), tt)
+  falling-shows (c ∷ d ∷ ds) ls f = ((omega (arith, f 0 (omega arith)), tt), falling-shows (d ∷ ds) ls (λ i l. f (suc i) (omega arith)))
 
-pub shows-iff-falling : (xs ls : List ℕ) → Shows 1 (singles xs) ls ↔ Falling xs ls
-shows-iff-falling xs ls = (shows-falling xs ls, falling-shows xs ls)
+  pub shows-iff-falling : (xs ls : List ℕ) → Shows gap (singles xs) ls ↔ Falling gap xs ls
+  shows-iff-falling xs ls = (shows-falling xs ls, falling-shows xs ls)

@@ -3,14 +3,14 @@
 use Prim.Native.Nat.{ℕ, _≤_}
 use mathlib.Core.Path.{_≡_, ap, _∙_}
 use mathlib.Core.Bool.{true}
-use mathlib.Core.List.{[], List, _∷_, _++_}
+use mathlib.Core.List.{[], List}
 use native.Mathlib.Omega.{arith}
 use Rattle.order.specs.declared.Order.{Order}
 use Rattle.order.specs.declared.Refusal.the-variants.{NoOrder, Worn}
 use Rattle.order.specs.Refusals.{numberOf}
 use Rattle.order.specs.Cells.{isOrder}
 use Rattle.order.specs.Order.{cellNumbers, listed, isOrderOf}
-use Rattle.order.proofs.Refusals.{all-held, check-held}
+use Rattle.order.proofs.Refusals.{all-held, check-held, check-holds, all-hold}
 use Rattle.order.proofs.Pairs.{listing-length}
 use Rattle.order.proofs.Check.{listing-parts}
 use Rattle.group.specs.declared.Group.{Group}
@@ -20,8 +20,8 @@ use Rattle.group.proofs.Rows.{row-true, row-below}
 use Rattle.group.proofs.Levels.{at-most-refl, at-most-trans, at-most-length, at-most-true, true-at-most}
 use Rattle.group.proofs.Checks.{checked-size, checked-levels, checked-caps}
 use Rattle.group.proofs.Groups.{IsGroup, told-value, told-accepted, group-with}
-use Rattle.writing.specs.PushUp.{singles, Shows, raise}
-use Rattle.writing.specs.Calls.{Program, raised, fits, pushed, unpushed, writeOf}
+use Rattle.writing.specs.PushUp.{singles, Shows}
+use Rattle.writing.specs.Calls.{Program, raised, fits, pushChecks, pushed, unpushed, writeChecks, writeOf}
 use Rattle.writing.proofs.Raise.{raise-least}
 
 -- an order that is handed in for a group, and the group's levels, can be raised
@@ -30,30 +30,39 @@ pub checked-target : (g : Group) (o : Order) → numberOf (groupChecks g) ≡ 0 
 checked-target g o d e =
     let n = listing-length (cellNumbers o) (o .len) (g .n) e in
     let t = listing-parts (cellNumbers o) (o .len) (g .n) e in
-    (ap (λ (k : ℕ). isOrder k (listed o)) n ∙ t .0, omega (arith, checked-size g d), row-true (g .n) (g .levels) (checked-levels g d))
+    (ap (λ (k : ℕ). isOrder k (listed o)) n ∙ t .0, omega (arith, checked-size g d), row-true 4095 (g .n) (g .levels) (checked-levels g d))
 
 -- ---- a write
 
--- what an accepted write knows: its group, its order, and that no new level is above its cap; and what it leaves
+-- the last checks of a call that raises cells hold exactly when no new level is above its cap
+pub push-held : (g : Group) (xs : List ℕ) → numberOf (pushChecks g xs) ≡ 0 → fits g xs ≡ true
+push-held g xs e = check-held (fits g xs) Worn [] e .0
+
+pub push-holds : (g : Group) (xs : List ℕ) → fits g xs ≡ true → numberOf (pushChecks g xs) ≡ 0
+push-holds g xs f = check-holds Worn [] f ∙ all-hold
+
+-- cells raised past these checks leave a group
+pub group-pushed : (g : Group) (xs : List ℕ) → IsGroup g → numberOf (pushChecks g xs) ≡ 0 → IsGroup (pushed g xs .group)
+unfolding pushed fits
+group-pushed g xs h e =
+    let low = at-most-true (raised g xs) (g .caps) (push-held g xs e) in
+    group-with g h (raised g xs) (g .caps) true (row-below 4095 (g .n) low (checked-caps g (h .passes))) (at-most-length low ∙ h .caps) (at-most-refl (g .caps))
+
+-- what an accepted write knows: its group, its order, and that its last checks hold; and what it leaves
 pub write-accepted : (g : Group) (o : Order) → writeOf g o .number ≡ 0
-    → (numberOf (groupChecks g) ≡ 0) × (isOrderOf (g .n) o ≡ true) × (fits g (listed o) ≡ true) × (writeOf g o .value ≡ pushed g (listed o))
+    → (numberOf (groupChecks g) ≡ 0) × (isOrderOf (g .n) o ≡ true) × (numberOf (pushChecks g (listed o)) ≡ 0) × (writeOf g o .value ≡ pushed g (listed o))
 unfolding writeOf
 write-accepted g o e =
     let t = told-accepted _ (pushed g (listed o)) (unpushed g) e in
     let s = all-held _ (groupChecks g) (t .0) in
     let p = check-held (isOrderOf (g .n) o) NoOrder _ (s .1) in
-    (s .0, p .0, check-held (fits g (listed o)) Worn [] (p .1) .0, t .1)
+    (s .0, p .0, p .1, t .1)
 
 pub write-group : (g : Group) (o : Order) → IsGroup g → IsGroup (writeOf g o .value .group)
-unfolding writeOf pushed raised fits
+unfolding writeOf
 write-group g o h =
-    let new = raise 1 (singles (listed o)) (g .levels) in
-    told-value (λ (p : Program). IsGroup (p .group)) (groupChecks g ++ (isOrderOf (g .n) o, NoOrder) ∷ (fits g (listed o), Worn) ∷ [])
-    (pushed g (listed o)) (unpushed g)
-    (λ e.
-    let p = check-held (isOrderOf (g .n) o) NoOrder _ (all-held _ (groupChecks g) e .1) in
-    let low = at-most-true new (g .caps) (check-held (fits g (listed o)) Worn [] (p .1) .0) in
-    group-with g h new (g .caps) true (row-below (g .n) low (checked-caps g (h .passes))) (at-most-length low ∙ h .caps) (at-most-refl (g .caps))) h
+    told-value (λ (p : Program). IsGroup (p .group)) (writeChecks g o) (pushed g (listed o)) (unpushed g)
+    (λ e. group-pushed g (listed o) h (check-held (isOrderOf (g .n) o) NoOrder _ (all-held _ (groupChecks g) e .1) .1)) h
 
 -- no new level is above its cap where some levels, none lower than the old ones, show the order within the caps
 pub fits-where : (g : Group) (xs ms : List ℕ) → AtMost (g .levels) ms → Shows 1 (singles xs) ms → AtMost ms (g .caps) → fits g xs ≡ true

@@ -7,6 +7,7 @@
 --   fits g xs           no new level, raised or kept, is above its cell's cap
 --   pushed g xs         what an accepted write of an order carries: pulses are the sum of all rises
 --   unpushed g          what a refused write carries: the record given, no pulses, no pushes
+--   pushChecks g xs     the last check of a call that raises cells to show an order: 8
 --   writeChecks g o     the checks of a write: 1, 2, 4, 8
 --   writeOf g o         the answer to `write`
 use Prim.Native.Nat.{ℕ, _-_}
@@ -62,8 +63,11 @@ pushed g xs =
 abbrev pub unpushed : Group → Program
 unpushed g = record { group = g; pulses = 0; count = 0; pushes = pushArray [] }
 
+abbrev pub pushChecks : Group → List ℕ → List (Bool × Refusal)
+pushChecks g xs = (fits g xs, Worn) ∷ []
+
 abbrev pub writeChecks : Group → Order → List (Bool × Refusal)
-writeChecks g o = groupChecks g ++ (isOrderOf (g .n) o, NoOrder) ∷ (fits g (listed o), Worn) ∷ []
+writeChecks g o = groupChecks g ++ (isOrderOf (g .n) o, NoOrder) ∷ pushChecks g (listed o)
 
 unfoldable pub writeOf : Group → Order → Told Program
 writeOf g o = answer (writeChecks g o) (pushed g (listed o)) (unpushed g)

@@ -94,7 +94,7 @@ pub fn unwritten(outcome: Outcome, g: Group) -> Written
 // more than that.
 fn raise_all(o: Order, old: [u16; 12]) -> PushUp
     requires { ⌜ (isOrder (o .len) (listed o) ≡ true) × (o .len ≤ 12) × (allAtMost 4095 old ≡ true) ⌝ }
-    ensures { λ r. ⌜ r ≡ pushUpTo (listed o) old ⌝ }
+    ensures { λ r. ⌜ r ≡ pushUpTo 1 (listed o) old ⌝ }
 {
     let mut levels = old;
     let mut floor: u16 = 0;
