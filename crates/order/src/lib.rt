@@ -263,10 +263,17 @@ pub fn no_order(refusal: Refusal) -> OrderAnswer
 {
     OrderAnswer {
         outcome: Outcome::Refused(refusal),
-        order: Order {
-            len: 0,
-            cells: [Cell(0); 12],
-        },
+        order: zero_order(),
+    }
+}
+
+// The all-zero record of an order: no cells.
+pub fn zero_order() -> Order
+    ensures { λ r. ⌜ r ≡ noOrder ⌝ }
+{
+    Order {
+        len: 0,
+        cells: [Cell(0); 12],
     }
 }
 

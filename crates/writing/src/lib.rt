@@ -8,13 +8,14 @@ use order::Outcome;
 use order::Refusal;
 ghost use mathlib.Core.Path.{_≡_};
 ghost use mathlib.Core.Bool.{true};
+ghost use mathlib.Core.List.{[]};
 ghost use Prim.Native.Nat.{_≤_};
 ghost use Rattle.order.specs.Refusals.{outcomeNumber};
 ghost use Rattle.order.specs.Cells.{isOrder};
 ghost use Rattle.order.specs.Order.{listed};
 ghost use Rattle.group.specs.Levels.{atMost};
 ghost use Rattle.group.specs.Record.{allAtMost};
-ghost use Rattle.writing.specs.Calls.{toldWritten, writeOf, unpushed};
+ghost use Rattle.writing.specs.Calls.{pushArray, toldWritten, writeOf, unpushed};
 ghost use Rattle.writing.specs.Steps.{pushUpTo};
 
 // A cell that rises, and the level that it reaches.
@@ -83,11 +84,18 @@ pub fn unwritten(outcome: Outcome, g: Group) -> Written
         group: g,
         pulses: 0,
         count: 0,
-        pushes: [Push {
-            cell: Cell(0),
-            level: 0,
-        }; 11],
+        pushes: zero_pushes(),
     }
+}
+
+// No pushes: zeros in all places.
+pub fn zero_pushes() -> [Push; 11]
+    ensures { λ r. ⌜ r ≡ pushArray [] ⌝ }
+{
+    [Push {
+        cell: Cell(0),
+        level: 0,
+    }; 11]
 }
 
 // The push-up of a whole order, from its lowest cell: each next cell up takes the larger of its level and the floor, and the floor goes to one
@@ -100,10 +108,7 @@ fn raise_all(o: Order, old: [u16; 12]) -> PushUp
     let mut floor: u16 = 0;
     let mut pulses: u32 = 0;
     let mut count: usize = 0;
-    let mut pushes = [Push {
-        cell: Cell(0),
-        level: 0,
-    }; 11];
+    let mut pushes = zero_pushes();
     let mut i = o.len;
     while 0 < i {
         i -= 1;
