@@ -4,7 +4,7 @@ use mathlib.Core.Path.{_≡_, refl}
 use mathlib.Core.List.{[], _∷_}
 use Rattle.order.specs.Refusals.{numberOf, answer}
 use Rattle.order.specs.Cells.{eachOnce, isOrder, allZero, isListing}
-use Rattle.order.specs.Order.{cellNumbers, orderRecord, noOrder}
+use Rattle.order.specs.Order.{cellNumbers, isOrderOf, orderRecord, noOrder}
 use Rattle.coordinates.specs.Coordinates.{coordinateOf, coordinatesTo, orderFrom, inRange}
 use Rattle.coordinates.specs.Calls.{coordinatesOf, orderByCoordinates, noCoordinates, coordinatesOfOrder, orderOfCoordinates}
 
@@ -15,5 +15,5 @@ answers :
     × (coordinatesOfOrder (orderRecord (3 ∷ 4 ∷ 3 ∷ 2 ∷ [])) ≡ record { number = 4; value = noCoordinates })
     × (orderOfCoordinates (record { len = 3; values = 0 ∷ 3 ∷ 2 ∷ 0 ∷ 0 ∷ 0 ∷ 0 ∷ 0 ∷ 0 ∷ 0 ∷ 0 ∷ [] }) ≡ record { number = 11; value = noOrder })
     × (orderOfCoordinates (record { len = 3; values = 0 ∷ 2 ∷ 2 ∷ 1 ∷ 0 ∷ 0 ∷ 0 ∷ 0 ∷ 0 ∷ 0 ∷ 0 ∷ [] }) ≡ record { number = 11; value = noOrder })
-unfolding coordinatesOfOrder orderOfCoordinates answer numberOf isListing isOrder eachOnce allZero cellNumbers orderRecord coordinatesOf coordinatesTo coordinateOf orderByCoordinates orderFrom inRange
+unfolding coordinatesOfOrder orderOfCoordinates answer numberOf isOrderOf isListing isOrder eachOnce allZero cellNumbers orderRecord coordinatesOf coordinatesTo coordinateOf orderByCoordinates orderFrom inRange
 answers = (refl, refl, refl, refl, refl)

@@ -13,7 +13,7 @@ use Rattle.order.specs.Refusals.{numberOf}
 use Rattle.order.specs.Order.{listed, orderChecks, orderRecord}
 use Rattle.order.proofs.Cells.{true-order, lt-cases}
 use Rattle.order.proofs.Tabulate.{getD-tabulate}
-use Rattle.order.proofs.Refusals.{told-done, sized-done, sized-holds}
+use Rattle.order.proofs.Refusals.{told-done, sized-done, sized-holds, size-in}
 use Rattle.order.proofs.Records.{record-listed, record-order, record-back, passed, passed-listed, passed-order}
 use Rattle.coordinates.specs.declared.Coordinates.{Coordinates}
 use Rattle.coordinates.specs.Coordinates.{coordinateOf, coordinatesTo, orderFrom, inRange}
@@ -68,8 +68,10 @@ module _ (x : Coordinates) (d : numberOf (coordinateChecks x) ≡ 0) where
   pub order-passes : numberOf (orderChecks (orderByCoordinates x)) ≡ 0
   unfolding orderByCoordinates orderRecord cells
   order-passes =
-      sized-holds (length cells) _ _ (omega (arith, size, passed-coordinates .0)) (omega (arith, size, passed-coordinates .1))
-      (record-order cells (omega (arith, size, passed-coordinates .1)) ∙ rw size (true-order _ cells (order-is (coordinateAt (x .values)) (x .len + 1))))
+      let low : 3 ≤ length cells = omega (arith, size, passed-coordinates .0) in
+      let high : length cells ≤ 12 = omega (arith, size, passed-coordinates .1) in
+      sized-holds (length cells) _ _ low high
+      (record-order cells high (size-in (length cells) low high) ∙ rw size (true-order _ cells (order-is (coordinateAt (x .values)) (x .len + 1))))
 
   module _ (w : length (x .values) ≡ 11) where
     coordinate-low : (i : ℕ) → i < x .len + 1 → coordinateAt (x .values) i ≤ i

@@ -13,13 +13,13 @@ use Rattle.order.specs.Refusals.{numberOf}
 use Rattle.order.specs.Cells.{isListing}
 use Rattle.order.specs.Order.{cellNumbers, listed, orderChecks, orderRecord, rankNumbers, ranked, rankChecks, ranksOf, orderByRank, ranksOfOrder, orderOfRanks}
 use Rattle.order.proofs.Cells.{IsOrder, order-true}
-use Rattle.order.proofs.Refusals.{told-done, sized-done, sized-holds}
-use Rattle.order.proofs.Check.{listing-parts}
+use Rattle.order.proofs.Refusals.{told-done, sized-done, sized-holds, size-in}
+use Rattle.order.proofs.Check.{Listing, listing-parts}
 use Rattle.order.proofs.Records.{passed, passed-order, record-back}
 use Rattle.order.proofs.Padded.{padded, padded-back}
 use Rattle.order.proofs.Inverse.{inverseTo}
 use Rattle.order.proofs.Inverted.{inverted, inverted-listed, inverted-listing, inverted-back}
-use Rattle.order.proofs.Listings.{cell, cellNumber, rank, rankNumber}
+use Rattle.order.proofs.Listings.{cell, cellNumber, rank, rankNumber, ranks-order}
 
 -- ---- the order of an order's ranks
 
@@ -52,14 +52,16 @@ module _ (r : Ranks) (w : length (r .ranks) ≡ 12) (d : numberOf (rankChecks r)
   hold : (3 ≤ r .len) × (r .len ≤ 12) × (isListing (r .len) (r .len) (rankNumbers r) ≡ true)
   hold = sized-done (r .len) _ _ d
 
+  listing : Listing (r .len) (r .len) (rankNumbers r)
+  listing = listing-parts (rankNumbers r) (r .len) (r .len) (hold .2)
+
   ranked-order : IsOrder (r .len) (ranked r)
-  ranked-order = order-true (r .len) (ranked r) (listing-parts (rankNumbers r) (r .len) (r .len) (hold .2) .0)
+  ranked-order = order-true (r .len) (ranked r) (listing .order)
 
   order-passes : numberOf (orderChecks (orderByRank r)) ≡ 0
-  unfolding orderByRank cellNumbers inverted
+  unfolding orderByRank
   order-passes =
-      sized-holds (r .len) _ _ (hold .0) (hold .1)
-      (inverted-listing cell cellNumber (λ k. refl) (λ c. refl) 12 (r .len) (ranked r) ranked-order (hold .1))
+      sized-holds (r .len) _ _ (hold .0) (hold .1) (ranks-order r w (size-in (r .len) (hold .0) (hold .1)) ∙ listing .order)
 
   ranks-back : ranksOf (orderByRank r) ≡ r
   unfolding ranksOf orderByRank cellNumbers rankNumbers inverted padded
@@ -70,7 +72,7 @@ module _ (r : Ranks) (w : length (r .ranks) ≡ 12) (d : numberOf (rankChecks r)
       (ap (inverted rank rankNumber (λ k. refl) (λ k. refl) 12) listed-is
       ∙ inverted-back rank rankNumber (λ k. refl) (λ k. refl) 12 (r .len) (ranked r) ranked-order (hold .1)
       ∙ padded-back rank rankNumber (λ k. refl) (λ k. refl) (r .ranks) 12 (r .len) w (hold .1)
-      (listing-parts (rankNumbers r) (r .len) (r .len) (hold .2) .1))
+      (listing .clear))
 
   -- ranks are the ranks of their order
   pub ranks-of-their-order : ranksOfOrder (orderByRank r) ≡ record { number = 0; value = r }

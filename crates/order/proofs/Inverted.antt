@@ -74,5 +74,5 @@ module _ {A : Type 0} (wrap : ℕ → A) (number : A → ℕ) (back : (k : ℕ) 
   inverted-order m n xs e s =
       same-test (isListing n n (map number (inverted m xs))) (isOrder n xs)
       (λ t. true-order n xs (order-inverse n xs e
-      (order-true n (inverseTo n xs) (rw (inverted-listed m n xs s) at (listing-parts (map number (inverted m xs)) n n t .0)))))
+      (order-true n (inverseTo n xs) (rw (inverted-listed m n xs s) at (listing-parts (map number (inverted m xs)) n n t .order)))))
       (λ t. inverted-listing m n xs (order-true n xs t) s)

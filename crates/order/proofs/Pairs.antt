@@ -2,24 +2,15 @@
 -- Assumes nothing.
 use Prim.Native.Nat.{ℕ, _≤_}
 use mathlib.Core.Path.{_≡_, ap, _∙_}
-use mathlib.Core.Bool.{true, _&&_}
-use mathlib.Core.List.{List, [], _∷_}
-use lib.ListN.{take, drop}
-use lib.Dec.{eqb}
-use borrow.Author.Tests.{eqb-true}
+use mathlib.Core.Bool.{true}
+use mathlib.Core.List.{[], _∷_}
 use Rattle.order.specs.declared.Order.{Order}
 use Rattle.order.specs.declared.Refusal.the-variants.{Size, NoOrder}
 use Rattle.order.specs.Refusals.{numberOf, isSize}
-use Rattle.order.specs.Cells.{isOrder, isListing, allZero}
-use Rattle.order.specs.Order.{cellNumbers, listed, isOrderOf, orderChecks, pairChecks}
-use Rattle.order.proofs.Cells.{both}
-use Rattle.order.proofs.Check.{listing-parts}
+use Rattle.order.specs.Cells.{isOrder}
+use Rattle.order.specs.Order.{listed, isOrderOf, orderChecks, pairChecks}
+use Rattle.order.proofs.Check.{order-parts}
 use Rattle.order.proofs.Refusals.{check-held, check-holds, all-hold, size-true}
-
--- a record that lists n cells has the length n
-pub listing-length : (xs : List ℕ) (len n : ℕ) → isListing n len xs ≡ true → len ≡ n
-unfolding isListing
-listing-length xs len n e = eqb-true len n (both (eqb len n) (isOrder n (take len xs) && allZero (drop len xs)) e .0)
 
 module _ (u v : Order) (d : numberOf (pairChecks u v) ≡ 0) where
   sized : (isSize (u .len) ≡ true) × (numberOf ((isOrderOf (u .len) u, NoOrder) ∷ (isOrderOf (u .len) v, NoOrder) ∷ []) ≡ 0)
@@ -32,7 +23,7 @@ module _ (u v : Order) (d : numberOf (pairChecks u v) ≡ 0) where
   second = check-held (isOrderOf (u .len) v) NoOrder [] (first .1) .0
 
   pub same-length : v .len ≡ u .len
-  same-length = listing-length (cellNumbers v) (v .len) (u .len) second
+  same-length = order-parts (u .len) v second .1 .long
 
   -- both have ranks
   pub passed-first : numberOf (orderChecks u) ≡ 0
@@ -47,7 +38,7 @@ module _ (u v : Order) (d : numberOf (pairChecks u v) ≡ 0) where
   pair-size = size-true (u .len) (sized .0)
 
   pub first-order : isOrder (u .len) (listed u) ≡ true
-  first-order = listing-parts (cellNumbers u) (u .len) (u .len) (first .0) .0
+  first-order = order-parts (u .len) u (first .0) .1 .order
 
   pub second-order : isOrder (u .len) (listed v) ≡ true
-  second-order = listing-parts (cellNumbers v) (v .len) (u .len) second .0
+  second-order = order-parts (u .len) v second .1 .order

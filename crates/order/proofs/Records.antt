@@ -8,12 +8,12 @@ use mathlib.Core.List.{List}
 use lib.ListN.{length}
 use borrow.Author.Tests.{eq-eqb}
 use Rattle.order.specs.declared.Order.{Order}
-use Rattle.order.specs.Refusals.{numberOf}
+use Rattle.order.specs.Refusals.{numberOf, isSize}
 use Rattle.order.specs.Cells.{isOrder, isListing}
 use Rattle.order.specs.Order.{cellNumbers, listed, isOrderOf, orderChecks, orderRecord}
 use Rattle.order.proofs.Cells.{IsOrder, order-true}
-use Rattle.order.proofs.Refusals.{sized-done, sized-holds}
-use Rattle.order.proofs.Check.{listing-parts}
+use Rattle.order.proofs.Refusals.{sized-done, sized-holds, size-in}
+use Rattle.order.proofs.Check.{order-parts}
 use Rattle.order.proofs.Padded.{padded, padded-listed, padded-clear, padded-back}
 use Rattle.order.proofs.Listings.{cell, cellNumber}
 
@@ -26,10 +26,10 @@ module _ (xs : List ℕ) (s : length xs ≤ 12) where
   unfolding cellNumbers orderRecord padded
   record-listed = padded-listed cell cellNumber (λ k. refl) (λ c. refl) 12 xs s (length xs) refl
 
-  pub record-order : isOrderOf (length xs) (orderRecord xs) ≡ isOrder (length xs) xs
-  unfolding isListing cellNumbers orderRecord padded
-  record-order =
-      rw (eq-eqb (length xs) (length xs) refl, record-listed, padded-clear cell cellNumber (λ k. refl) (λ c. refl) 12 xs s (length xs) refl)
+  pub record-order : isSize (length xs) ≡ true → isOrderOf (length xs) (orderRecord xs) ≡ isOrder (length xs) xs
+  unfolding isOrderOf isListing cellNumbers orderRecord padded
+  record-order z =
+      rw (z, eq-eqb (length xs) (length xs) refl, record-listed, padded-clear cell cellNumber (λ k. refl) (λ c. refl) 12 xs s (length xs) refl)
       (and-true (isOrder (length xs) xs))
 
 -- the record of an order of n cells: its length, its list, and that it passes the checks
@@ -49,7 +49,7 @@ module _ (n : ℕ) (xs : List ℕ) (t : isOrder n xs ≡ true) where
     unfolding orderRecord
     recorded-passes =
         let size = order-true n xs t .size in
-        sized-holds (length xs) _ _ (omega arith) short (record-order xs short ∙ rw size t)
+        sized-holds (length xs) _ _ (omega arith) short (record-order xs short (size-in (length xs) (omega arith) short) ∙ rw size t)
 
 -- what an order that passes the checks tells
 module _ (o : Order) (d : numberOf (orderChecks o) ≡ 0) where
@@ -57,7 +57,7 @@ module _ (o : Order) (d : numberOf (orderChecks o) ≡ 0) where
   passed = sized-done (o .len) _ _ d
 
   pub passed-listed : isOrder (o .len) (listed o) ≡ true
-  passed-listed = listing-parts (cellNumbers o) (o .len) (o .len) (passed .2) .0
+  passed-listed = order-parts (o .len) o (passed .2) .1 .order
 
   pub passed-order : IsOrder (o .len) (listed o)
   passed-order = order-true (o .len) (listed o) passed-listed
@@ -69,5 +69,5 @@ module _ (o : Order) (d : numberOf (orderChecks o) ≡ 0) where
         len = passed-order .size i;
         cells =
             padded-back cell cellNumber (λ k. refl) (λ c. refl) (o .cells) 12 (o .len) w (passed .1)
-            (listing-parts (cellNumbers o) (o .len) (o .len) (passed .2) .1) i;
+            (order-parts (o .len) o (passed .2) .1 .clear) i;
       }

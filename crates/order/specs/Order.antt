@@ -2,7 +2,7 @@
 --
 --   cellNumbers o       the numbers in the record's twelve places
 --   listed o            the cells of the order, by number
---   isOrderOf n o       the record is an order of the cells 1 to n, with zeros past them; whether n is a size is another check
+--   isOrderOf n o       n is a size, and the record is an order of the cells 1 to n, with zeros past them
 --   orderChecks o       the checks of an order that is handed in without a group: n is its length
 --   pairChecks u v      the checks of two orders without a group: n is the first one's length
 --   orderRecord xs      the record of a list of cells
@@ -15,7 +15,7 @@
 --   toldOrder, toldRanks           what an answer says: its number, and the order or the ranks
 --   orderOfCells, ranksOfOrder, orderOfRanks    the answers to `order_of`, `ranks_of` and `from_ranks`
 use Prim.Native.Nat.{ℕ, suc}
-use mathlib.Core.Bool.{Bool}
+use mathlib.Core.Bool.{Bool, _&&_}
 use mathlib.Core.List.{List, [], _∷_, _++_, map}
 use lib.ListN.{length, getD, take, replicate}
 use Rattle.order.specs.declared.Cell.{Cell}
@@ -37,8 +37,8 @@ cellNumbers o = map (λ (c : Cell). c .0) (o .cells)
 abbrev pub listed : Order → List ℕ
 listed o = take (o .len) (cellNumbers o)
 
-abbrev pub isOrderOf : ℕ → Order → Bool
-isOrderOf n o = isListing n (o .len) (cellNumbers o)
+unfoldable pub isOrderOf : ℕ → Order → Bool
+isOrderOf n o = isSize n && isListing n (o .len) (cellNumbers o)
 
 abbrev pub orderChecks : Order → List (Bool × Refusal)
 orderChecks o = (isSize (o .len), Size) ∷ (isOrderOf (o .len) o, NoOrder) ∷ []

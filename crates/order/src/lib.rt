@@ -143,14 +143,14 @@ pub fn is_size(n: usize) -> bool
     if 3 <= n { n <= 12 } else { false }
 }
 
-// Whether the record is an order of the cells 1 to n. Whether n is a size is another check.
+// Whether the record is an order of the cells 1 to n, and n a size.
 pub fn is_order(o: Order, n: usize) -> bool
     ensures { λ r. ⌜ r ≡ isOrderOf n o ⌝ }
 {
     if o.len != n {
         return false;
     }
-    if 12 < n {
+    if !is_size(o.len) {
         return false;
     }
     if is_padded(o) {
@@ -335,7 +335,7 @@ pub fn from_ranks(r: Ranks) -> OrderAnswer
 
 // Whether the ranks are 1 to the length, each once, and the later places 0: their inverse then lists each cell once.
 fn are_ranks(r: Ranks) -> bool
-    requires { ⌜ r .len ≤ 12 ⌝ }
+    requires { ⌜ isSize (r .len) ≡ true ⌝ }
     ensures { λ b. ⌜ b ≡ isListing (r .len) (r .len) (rankNumbers r) ⌝ }
 {
     let n = r.len;

@@ -13,9 +13,9 @@ use Rattle.order.specs.declared.Refusal.{Refusal}
 use Rattle.order.specs.declared.Refusal.the-variants.{NoOrder, Worn}
 use Rattle.order.specs.Refusals.{numberOf, ifDone, Told, answer}
 use Rattle.order.specs.Cells.{isOrder}
-use Rattle.order.specs.Order.{cellNumbers, listed, isOrderOf}
+use Rattle.order.specs.Order.{listed, isOrderOf}
 use Rattle.order.proofs.Refusals.{check-fails, check-held, later-decide, all-held}
-use Rattle.order.proofs.Check.{listing-parts}
+use Rattle.order.proofs.Check.{order-parts}
 use Rattle.coordinates.specs.Calls.{coordinateAt}
 use Rattle.coordinates.proofs.RoundTrip.{order-of-any}
 use Rattle.code.specs.Words.{wordAt}
@@ -167,7 +167,7 @@ module _ (g : Group) (c : Call) (w : writes (c .kind) ≡ true) where
 target-order : (g : Group) (o : Order) (k : Kind) → writes k ≡ true → numberOf (earlierBy g o k) ≡ 0 → isOrder (g .n) (targetBy g o k) ≡ true
 unfolding wordOf
 target-order g o Write w e =
-    listing-parts (cellNumbers o) (o .len) (g .n) (check-held (isOrderOf (g .n) o) NoOrder [] (all-held _ (groupChecks g) e .1) .0) .0
+    order-parts (g .n) o (check-held (isOrderOf (g .n) o) NoOrder [] (all-held _ (groupChecks g) e .1) .0) .1 .order
 target-order g o (Store s) w e = order-of-any (coordinateAt (wordAt (g .n) s)) (g .n)
 target-order g o Scrub w e = exchange-order (g .n) (sensedOrder g) (sensed-order (g .n) (g .levels)) (placeRead g)
 target-order g o (Leak c d) w e = absurd (false≢true w)

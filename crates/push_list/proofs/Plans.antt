@@ -14,7 +14,7 @@ use Rattle.order.specs.declared.Refusal.the-variants.{ListShort}
 use Rattle.order.specs.Refusals.{numberOf, Told, answer}
 use Rattle.order.specs.Order.{cellNumbers, listed, isOrderOf}
 use Rattle.order.proofs.Refusals.{check-held, all-held}
-use Rattle.order.proofs.Pairs.{listing-length}
+use Rattle.order.proofs.Check.{order-parts}
 use Rattle.group.specs.declared.Group.{Group}
 use Rattle.writing.specs.declared.Push.{Push}
 use Rattle.group.specs.Record.{groupChecks}
@@ -56,7 +56,7 @@ module _ (g : Group) (o : Order) where
   program-short : isOrderOf (g .n) o ≡ true → pushed g (listed o) .count ≤ g .n - 1
   unfolding pushed
   program-short e =
-      omega (arith, few-pushes 1 (g .levels) (listed o), length-take (o .len) (cellNumbers o), listing-length (cellNumbers o) (o .len) (g .n) e)
+      omega (arith, few-pushes 1 (g .levels) (listed o), length-take (o .len) (cellNumbers o), order-parts (g .n) o e .1 .long)
 
   pub plan-fits : (room : ℕ) → (planOf g o room .value .count ≤ 11) × (planOf g o room .value .count ≤ room)
   unfolding planOf answer

@@ -11,7 +11,7 @@ use lib.ListN.{replicate}
 use Rattle.order.specs.declared.Order.{Order}
 use Rattle.order.specs.Refusals.{numberOf, Told, answer}
 use Rattle.order.specs.Cells.{eachOnce, isOrder, allZero, isListing}
-use Rattle.order.specs.Order.{cellNumbers, orderRecord}
+use Rattle.order.specs.Order.{cellNumbers, isOrderOf, orderRecord}
 use Rattle.group.specs.Levels.{level, put, AtMost, atMost, rises}
 use Rattle.writing.specs.PushUp.{singles, top, floorOver, Reach, Shows, lift, raise}
 use Rattle.group.specs.declared.Group.{Group}
@@ -56,7 +56,7 @@ course-raised =
 module _ (run : Machine) where
   -- it says worn where a rival can be raised
   worn-refuted : run start call .number ≡ 8 → ¬ (Demand3 run start [])
-  unfolding Raisable latest after plain numberOf isRow allAtMost orderRecord cellNumbers isListing isOrder eachOnce allZero
+  unfolding Raisable latest after plain numberOf isRow allAtMost orderRecord cellNumbers isOrderOf isListing isOrder eachOnce allZero
   worn-refuted e d = d .worn-exactly call refl refl .0 e ([], rest, course, course-raised)
 
   -- it goes higher than the plain machine does
@@ -82,7 +82,7 @@ quitter-refuted = worn-refuted quitter refl
 
 -- what the plain machine answers to that write
 plain-answer : let t = applyOf start call in (t .number ≡ 0) × (t .value .group .levels ≡ least) × (t .value .pulses ≡ 3)
-unfolding applyOf writeOf answer pushed rises numberOf isRow allAtMost orderRecord cellNumbers isListing isOrder eachOnce allZero fits raised raise lift singles floorOver top level put atMost
+unfolding applyOf writeOf answer pushed rises numberOf isRow allAtMost orderRecord cellNumbers isOrderOf isListing isOrder eachOnce allZero fits raised raise lift singles floorOver top level put atMost
 plain-answer = (refl, refl, refl)
 
 -- the plain machine's answer with other levels, and with other pulses
@@ -138,7 +138,7 @@ abbrev worn-course : Rival
 worn-course = record { levels = least; caps = put (start .caps) 1 2; pulses = 3 }
 
 pub hasty-refuted : ¬ (Demand3 hasty start (call ∷ worn-call ∷ []))
-unfolding hasty Raisable latest after plain plainAfter entrant Moves Follows applyOf writeOf wearOf answer pushed rises numberOf isRow allAtMost orderRecord cellNumbers isListing isOrder eachOnce allZero fits raised raise lift singles floorOver top level put atMost Shows Reach
+unfolding hasty Raisable latest after plain plainAfter entrant Moves Follows applyOf writeOf wearOf answer pushed rises numberOf isRow allAtMost orderRecord cellNumbers isOrderOf isListing isOrder eachOnce allZero fits raised raise lift singles floorOver top level put atMost Shows Reach
 hasty-refuted d =
     d .worn-exactly call refl refl .0 refl (
       course ∷ worn-course ∷ [],

@@ -3,7 +3,7 @@
 use mathlib.Core.Path.{refl}
 use Rattle.order.specs.Refusals as refusals
 use Rattle.order.specs.Cells.{eachOnce, isOrder, allZero, isListing, placeFrom, placeOf}
-use Rattle.order.specs.Order.{cellNumbers, orderRecord}
+use Rattle.order.specs.Order.{cellNumbers, isOrderOf, orderRecord}
 use Rattle.coordinates.specs.Coordinates.{coordinateOf, coordinatesTo, orderFrom}
 use Rattle.coordinates.specs.Calls.{coordinatesOf, coordinatesOfOrder}
 use Rattle.distance.specs.Distance.{distanceOf}
@@ -21,5 +21,5 @@ use Rattle.engine.specs.Calls.{readOf, storeOf}
 use Rattle.rivals.specs.Starred.{EachRight, starred}
 
 pub starred-hold : EachRight starred
-unfolding refusals.answer refusals.numberOf eachOnce isOrder allZero isListing placeFrom placeOf cellNumbers orderRecord coordinateOf coordinatesTo orderFrom coordinatesOf coordinatesOfOrder distanceOf displacement displacements largerOf largest cost displacementsOf costOf joined select same indexOf vectorsFrom weight leaves vectors words K wordAt wordNumber isCodeword firstBelow correction symbolOf wordOf codewordOf readingAt decodeOf level put atMost rises allAtMost isRow singles top floorOver lift raise pushOf rankPushes pushes raised fits pushed writeOf above insert sorted sensed senseOf readOf storeOf
+unfolding refusals.answer refusals.numberOf eachOnce isOrder allZero isOrderOf isListing placeFrom placeOf cellNumbers orderRecord coordinateOf coordinatesTo orderFrom coordinatesOf coordinatesOfOrder distanceOf displacement displacements largerOf largest cost displacementsOf costOf joined select same indexOf vectorsFrom weight leaves vectors words K wordAt wordNumber isCodeword firstBelow correction symbolOf wordOf codewordOf readingAt decodeOf level put atMost rises allAtMost isRow singles top floorOver lift raise pushOf rankPushes pushes raised fits pushed writeOf above insert sorted sensed senseOf readOf storeOf
 starred-hold = (refl, (refl, (refl, (refl, (refl, (refl, (refl, (refl, (refl, (refl, (refl, (refl, (refl, (refl, (refl, (refl, (refl, (refl, (refl, (refl, (refl, (refl, (refl, (refl, (refl, (refl, (refl, (refl, tt))))))))))))))))))))))))))))

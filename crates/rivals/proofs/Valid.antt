@@ -20,7 +20,7 @@ use Rattle.order.specs.Cells.{eachOnce, isOrder, allZero, isListing, tabulate, 
 use Rattle.order.specs.Order.{cellNumbers, listed, isOrderOf, orderRecord, noOrder}
 use Rattle.order.proofs.Cells.{order-true, order-range}
 use Rattle.order.proofs.Refusals.{all-hold, check-holds, later-decide, size-true}
-use Rattle.order.proofs.Check.{listing-parts}
+use Rattle.order.proofs.Check.{order-parts}
 use Rattle.order.proofs.Inverse.{own-place}
 use Rattle.order.proofs.Records.{record-order}
 use Rattle.order.proofs.Tabulate.{getD-tabulate}
@@ -231,7 +231,7 @@ module _ (n : ℕ) (size : isSize n ≡ true) where
   pub first-write : (o : Order) → isOrderOf n o ≡ true → applyOf (opened n) (writing o) .number ≡ 0
   first-write o t =
       apply-number (opened n) (writing o)
-      ∙ done-pushes (opened n) (writing o) refl (one-check _ _ t) (opened-passes n size (listed o) (listing-parts (cellNumbers o) (o .len) n t .0))
+      ∙ done-pushes (opened n) (writing o) refl (one-check _ _ t) (opened-passes n size (listed o) (order-parts n o t .1 .order))
 
   -- such an order is there: 1 to n
   pub some-order : isOrderOf n (orderRecord (orderFrom (λ i. 0) n)) ≡ true
@@ -240,7 +240,7 @@ module _ (n : ℕ) (size : isSize n ≡ true) where
       let t = order-of-any (λ i. 0) n in
       let long : length xs ≡ n = order-true n xs t .size in
       let whole : isOrder (length xs) xs ≡ true = rw long t in
-      rw long at (record-order xs (omega (arith, size-true n size .1)) ∙ whole)
+      rw long at (record-order xs (omega (arith, size-true n size .1)) (rw long size) ∙ whole)
 
   -- and a symbol: the coordinates of a codeword may all be 0
   pub some-symbol : 0 < K n
@@ -275,5 +275,5 @@ module _ (n : ℕ) (size : isSize n ≡ true) where
 
 pub worn-comes : let wearing : Call = record { kind = Wear (record { 0 = 1 }) 1; target = noOrder } in
     applyOf (after applyOf (opened 3) (wearing ∷ [])) (writing (orderRecord (1 ∷ 2 ∷ 3 ∷ []))) .number ≡ 8
-unfolding after applyOf wearOf writeOf answer numberOf isRow allAtMost orderRecord cellNumbers isListing isOrder eachOnce allZero fits raised raise lift singles floorOver top level put atMost
+unfolding after applyOf wearOf writeOf answer numberOf isRow allAtMost orderRecord cellNumbers isOrderOf isListing isOrder eachOnce allZero fits raised raise lift singles floorOver top level put atMost
 worn-comes = refl

@@ -12,12 +12,12 @@ use Rattle.order.specs.declared.Order.{Order}
 use Rattle.order.specs.declared.Refusal.the-variants.{NoOrder}
 use Rattle.order.specs.Refusals.{numberOf, answer}
 use Rattle.order.specs.Cells.{tabulate, placeOf, isOrder}
-use Rattle.order.specs.Order.{cellNumbers, listed, isOrderOf, pairChecks}
+use Rattle.order.specs.Order.{listed, isOrderOf, pairChecks}
 use Rattle.order.proofs.Cells.{order-true}
-use Rattle.order.proofs.Check.{listing-parts}
+use Rattle.order.proofs.Check.{order-parts}
 use Rattle.order.proofs.Refusals.{later-decide, check-holds}
 use Rattle.order.proofs.Records.{passed}
-use Rattle.order.proofs.Pairs.{listing-length, same-length, passed-second, pair-size, first-order, second-order}
+use Rattle.order.proofs.Pairs.{same-length, passed-second, pair-size, first-order, second-order}
 use Rattle.cost.specs.Cost.{cost, costOf}
 use Rattle.cost.proofs.Costs.{rank-high}
 use Rattle.group.specs.declared.Group.{Group}
@@ -54,9 +54,9 @@ write-rise g u v w s d a =
     let c = cost-accepted u v d in
     let t = write-accepted g v a in
     let size = checked-size g (t .0) in
-    let e : u .len ≡ g .n = sym (same-length u v (c .0)) ∙ listing-length (cellNumbers v) (v .len) (g .n) (t .1) in
+    let e : u .len ≡ g .n = sym (same-length u v (c .0)) ∙ order-parts (g .n) v (t .1) .1 .long in
     let p = ap (λ (k : ℕ). isOrder k (listed u)) (sym e) ∙ first-order u v (c .0) in
-    let q = listing-parts (cellNumbers v) (v .len) (g .n) (t .1) .0 in
+    let q = order-parts (g .n) v (t .1) .1 .order in
     rw (written-levels g v a)
     (c .1 ∙ ap (λ (k : ℕ). cost k (listed u) (listed v)) e
     ∙ cost-is-rise (g .n) (listed u) (listed v) (g .levels) (omega arith) p q (omega arith) s)

@@ -6,10 +6,9 @@ use native.Mathlib.Omega.{arith}
 use lib.ListN.{length}
 use Rattle.order.specs.declared.Order.{Order}
 use Rattle.order.specs.declared.Refusal.the-variants.{NoOrder}
-use Rattle.order.specs.Order.{cellNumbers, listed, isOrderOf, orderRecord}
-use Rattle.order.proofs.Pairs.{listing-length}
+use Rattle.order.specs.Order.{listed, isOrderOf, orderRecord}
 use Rattle.order.proofs.Refusals.{sized-holds, told-done}
-use Rattle.order.proofs.Check.{listing-parts}
+use Rattle.order.proofs.Check.{order-parts}
 use Rattle.order.proofs.Records.{record-back}
 use Rattle.group.specs.declared.Group.{Group}
 use Rattle.group.specs.Record.{programmed}
@@ -28,10 +27,10 @@ unfolding senseOf pushed raised
 write-sensed g o h w e =
     let t = write-accepted g o e in
     let after : IsGroup (programmed g (raised g (listed o))) = rw (t .3) at (write-group g o h) in
-    let n = listing-length (cellNumbers o) (o .len) (g .n) (t .1) in
-    let parts = listing-parts (cellNumbers o) (o .len) (g .n) (t .1) in
+    let parts = order-parts (g .n) o (t .1) .1 in
+    let n = parts .long in
     let size = checked-size g (h .passes) in
-    let shows = order-shows 1 (g .n) (listed o) (g .levels) (parts .0) (omega (arith, h .levels)) in
-    let back : sensed (g .n) (raised g (listed o)) ≡ listed o = sensed-back (g .n) (listed o) (raised g (listed o)) (parts .0) shows in
+    let shows = order-shows 1 (g .n) (listed o) (g .levels) (parts .order) (omega (arith, h .levels)) in
+    let back : sensed (g .n) (raised g (listed o)) ≡ listed o = sensed-back (g .n) (listed o) (raised g (listed o)) (parts .order) shows in
     let same : orderRecord (listed o) ≡ o = record-back o (sized-holds (o .len) (isOrderOf (o .len) o) NoOrder (omega arith) (omega arith) (ap (λ (k : ℕ). isOrderOf k o) n ∙ t .1)) w in
     rw (t .3) (sym (told-done _ _ _ (after .passes)) ∙ ap (λ (x : Order). record { number = 0; value = x }) (ap orderRecord back ∙ same))

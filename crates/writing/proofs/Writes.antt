@@ -9,10 +9,9 @@ use Rattle.order.specs.declared.Order.{Order}
 use Rattle.order.specs.declared.Refusal.the-variants.{NoOrder, Worn}
 use Rattle.order.specs.Refusals.{numberOf}
 use Rattle.order.specs.Cells.{isOrder}
-use Rattle.order.specs.Order.{cellNumbers, listed, isOrderOf}
+use Rattle.order.specs.Order.{listed, isOrderOf}
 use Rattle.order.proofs.Refusals.{all-held, check-held, check-holds, all-hold}
-use Rattle.order.proofs.Pairs.{listing-length}
-use Rattle.order.proofs.Check.{listing-parts}
+use Rattle.order.proofs.Check.{order-parts}
 use Rattle.group.specs.declared.Group.{Group}
 use Rattle.group.specs.Record.{allAtMost, groupChecks}
 use Rattle.group.specs.Levels.{AtMost}
@@ -28,9 +27,8 @@ use Rattle.writing.proofs.Raise.{raise-least}
 pub checked-target : (g : Group) (o : Order) → numberOf (groupChecks g) ≡ 0 → isOrderOf (g .n) o ≡ true
     → (isOrder (o .len) (listed o) ≡ true) × (o .len ≤ 12) × (allAtMost 4095 (g .levels) ≡ true)
 checked-target g o d e =
-    let n = listing-length (cellNumbers o) (o .len) (g .n) e in
-    let t = listing-parts (cellNumbers o) (o .len) (g .n) e in
-    (ap (λ (k : ℕ). isOrder k (listed o)) n ∙ t .0, omega (arith, checked-size g d), row-true 4095 (g .n) (g .levels) (checked-levels g d))
+    let t = order-parts (g .n) o e .1 in
+    (ap (λ (k : ℕ). isOrder k (listed o)) (t .long) ∙ t .order, omega (arith, checked-size g d), row-true 4095 (g .n) (g .levels) (checked-levels g d))
 
 -- ---- a write
 

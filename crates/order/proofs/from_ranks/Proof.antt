@@ -27,7 +27,7 @@ sized : (c : tie.Else1) → isSize (c .before .before .args .r .len) ≡ true
 sized c = sym (c .before .is-size .ensures) ∙ not-false _ (c .if1 .left)
 
 are-ranks-requires : tie.Need-are-ranks-requires
-are-ranks-requires c κs = size-true _ (sized c) .1
+are-ranks-requires c κs = sized c
 
 no-order-requires-2 : tie.Need-no-order-requires-2
 no-order-requires-2 c κs = search needs

@@ -43,7 +43,7 @@ no-order-requires-2 c κs = search needs
 tested : (c : tie.After-is-order) → let xs = now (c .before .before .before .before .before .args .cells) in c .is-order .result ≡ isOrder (length xs) xs
 tested c =
     let d = c .before .before in
-    c .is-order .ensures ∙ ap (isOrderOf _) (c .before .order-with .ensures) ∙ record-order _ (size-true _ (sized d) .1)
+    c .is-order .ensures ∙ ap (isOrderOf _) (c .before .order-with .ensures) ∙ record-order _ (size-true _ (sized d) .1) (sized d)
 
 returns-2 : tie.Need-returns-2
 unfolding orderOfCells
