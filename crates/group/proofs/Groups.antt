@@ -15,7 +15,7 @@ use Rattle.order.specs.Refusals.{numberOf, ifDone, answer, isSize}
 use Rattle.order.proofs.Refusals.{check-held, size-true, all-held}
 use Rattle.group.specs.declared.Group.{Group}
 use Rattle.group.specs.Levels.{level, AtMost}
-use Rattle.group.specs.Record.{isRow, groupChecks, opened, noGroup}
+use Rattle.group.specs.Record.{isRow, groupChecks, opened, noGroup, changed}
 use Rattle.group.specs.Calls.{cellChecks, openOf, leakOf, wearOf, eraseOf}
 use Rattle.group.proofs.Levels.{at-most-refl, at-most-length, put-below, leaked-below}
 use Rattle.group.proofs.Rows.{row-below, zeros-row, full-row}
@@ -49,12 +49,11 @@ told-accepted checks result zeros e = (e, rw e)
 module _ (g : Group) (h : IsGroup g) where
   -- good levels, and caps nowhere above the old ones
   pub group-with : (ls ks : List ℕ) (w : Bool) → isRow 4095 (g .n) ls ≡ true → length ls ≡ 12 → AtMost ks (g .caps)
-      → IsGroup (record { n = g .n; levels = ls; caps = ks; written = w })
+      → IsGroup (changed g ls ks w)
   group-with ls ks w r l p =
       let rules = rules-held g (h .passes) in
-      let next : Group = record { n = g .n; levels = ls; caps = ks; written = w } in
       record {
-        passes = rules-hold next (record { small = rules .small; large = rules .large; levels = r; caps = row-below 4095 (g .n) p (rules .caps) });
+        passes = rules-hold (changed g ls ks w) (record { small = rules .small; large = rules .large; levels = r; caps = row-below 4095 (g .n) p (rules .caps) });
         levels = l;
         caps = at-most-length p ∙ h .caps;
       }

@@ -4,8 +4,10 @@
 --   isRow m n xs        whole numbers 0 to m, and 0 in the places beyond n
 --   hasRows g           levels and caps are such rows, up to 4,095; a cap may be below the level of its cell
 --   groupChecks g       the checks of a record: 1, 2
+--   fresh n cs          a record of n cells with these caps: levels 0, not written
 --   opened n            levels 0, caps 4,095, not written
 --   noGroup             the all-zero record
+--   changed g ls cs w   the record with these levels, caps and mark, and all else as it was
 --   withLevels g ls, withCaps g cs    the record with other levels, or other caps
 --   programmed g ls     the record with these levels, written
 --   erased g            all levels 0, mark cleared, caps kept
@@ -32,20 +34,26 @@ hasRows g = isRow 4095 (g .n) (g .levels) && isRow 4095 (g .n) (g .caps)
 abbrev pub groupChecks : Group → List (Bool × Refusal)
 groupChecks g = (isSize (g .n), Size) ∷ (hasRows g, NoGroup) ∷ []
 
+abbrev pub fresh : ℕ → List ℕ → Group
+fresh n cs = record { n = n; levels = replicate 12 0; caps = cs; written = false }
+
 abbrev pub opened : ℕ → Group
-opened n = record { n = n; levels = replicate 12 0; caps = replicate n 4095 ++ replicate (12 - n) 0; written = false }
+opened n = fresh n (replicate n 4095 ++ replicate (12 - n) 0)
 
 abbrev pub noGroup : Group
-noGroup = record { n = 0; levels = replicate 12 0; caps = replicate 12 0; written = false }
+noGroup = fresh 0 (replicate 12 0)
+
+abbrev pub changed : Group → List ℕ → List ℕ → Bool → Group
+changed g ls cs w = record { n = g .n; levels = ls; caps = cs; written = w }
 
 abbrev pub withLevels : Group → List ℕ → Group
-withLevels g ls = record { n = g .n; levels = ls; caps = g .caps; written = g .written }
+withLevels g ls = changed g ls (g .caps) (g .written)
 
 abbrev pub withCaps : Group → List ℕ → Group
-withCaps g cs = record { n = g .n; levels = g .levels; caps = cs; written = g .written }
+withCaps g cs = changed g (g .levels) cs (g .written)
 
 abbrev pub programmed : Group → List ℕ → Group
-programmed g ls = record { n = g .n; levels = ls; caps = g .caps; written = true }
+programmed g ls = changed g ls (g .caps) true
 
 abbrev pub erased : Group → Group
-erased g = record { n = g .n; levels = replicate 12 0; caps = g .caps; written = false }
+erased g = changed g (replicate 12 0) (g .caps) false

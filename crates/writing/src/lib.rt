@@ -63,12 +63,7 @@ pub fn write(g: Group, target: Order) -> Written
     let pushes = p.pushes;
     Written {
         outcome: Outcome::Done,
-        group: Group {
-            n: g.n,
-            levels,
-            caps,
-            written: true,
-        },
+        group: group::programmed(g, levels),
         pulses: p.pulses,
         count: p.count,
         pushes,
