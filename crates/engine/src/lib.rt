@@ -4,7 +4,6 @@
 use code::DecodeAnswer;
 use code::Verdict;
 use group::Group;
-use order::Cell;
 use order::Outcome;
 use order::Refusal;
 use writing::Push;
@@ -187,10 +186,7 @@ pub fn unchanged(outcome: Outcome, g: Group) -> Applied
         verdict: Judged::Nothing,
         pulses: 0,
         count: 0,
-        pushes: [Push {
-            cell: Cell(0),
-            level: 0,
-        }; 11],
+        pushes: writing::zero_pushes(),
     }
 }
 
@@ -207,10 +203,7 @@ pub fn from_read(g: Group, answer: ReadAnswer) -> Applied
             verdict: Judged::By(verdict),
             pulses: 0,
             count: 0,
-            pushes: [Push {
-                cell: Cell(0),
-                level: 0,
-            }; 11],
+            pushes: writing::zero_pushes(),
         },
     }
 }
