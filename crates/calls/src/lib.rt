@@ -1,7 +1,6 @@
 // The text that the program `rmcalls` prints, put into a lent buffer (document 01, "Calls outside the list"): `run`, for a whole input; `go_on` and
 // `finish`, for the pieces of one. Each has an equation for its answer and one for the buffer. Records are answered by `records::step`; where a run
 // stands, and the text, are defined in crate `runs`.
-use group::Group;
 use order::Cell;
 use records::Answered;
 use records::CallRecord;
@@ -110,7 +109,7 @@ fn put_lines(p: Progress, input: &[u8], out: &mut [u8]) -> PieceAnswer
 {
     let count = input.len() / 8;
     let handed = p.group;
-    let mut g = by_fields(handed);
+    let mut g = group::by_fields(handed);
     let mut pulses = p.pulses;
     let mut position = p.position;
     let mut end = 0;
@@ -123,7 +122,7 @@ fn put_lines(p: Progress, input: &[u8], out: &mut [u8]) -> PieceAnswer
         end = put_line(out, end, position, r.kind, a);
         pulses += a.pulses as u64;
         let next = a.group;
-        g = by_fields(next);
+        g = group::by_fields(next);
     }
     PieceAnswer {
         end,
@@ -132,20 +131,6 @@ fn put_lines(p: Progress, input: &[u8], out: &mut [u8]) -> PieceAnswer
             group: g,
             pulses,
         },
-    }
-}
-
-// The same group, made of its fields, so that the bytes of the record that no field has are not copied from call to call.
-fn by_fields(g: Group) -> Group
-    ensures { λ r. ⌜ r ≡ g ⌝ }
-{
-    let levels = g.levels;
-    let caps = g.caps;
-    Group {
-        n: g.n,
-        levels,
-        caps,
-        written: g.written,
     }
 }
 
