@@ -11,6 +11,7 @@
 --   Answer              what the program keeps of an answer: the group after the call, the symbol (0 but for store, scrub and read), the pulses
 --   toldAnswered a      what an answer says: its number, and what is kept
 --   groupAlone g        the group and nothing else
+--   callOf kind         the call of the machine that a record asks for: none is a write, so the order beside it is the all-zero one
 --   afterApply t        what is kept of an answer of the machine
 --   afterOpen g t       what is kept of the answer to an open: a refused one keeps the group it had
 --   stepBy g q          the answer to a request: a bad record is refused 12
@@ -27,8 +28,10 @@ use Rattle.order.specs.Order.{noOrder}
 use Rattle.order.specs.Cells.{tabulate}
 use Rattle.group.specs.declared.Group.{Group}
 use Rattle.group.specs.Calls.{openOf}
-use Rattle.plain_machine.specs.declared.Kind.the-variants.{Store, Scrub, Leak, Wear, Erase, Read}
 use Rattle.engine.specs.Scrub.{Step}
+use Rattle.plain_machine.specs.declared.Kind.{Kind}
+use Rattle.plain_machine.specs.declared.Kind.the-variants.{Store, Scrub, Leak, Wear, Erase, Read}
+use Rattle.plain_machine.specs.declared.Call.{Call}
 use Rattle.plain_machine.specs.Machine.{applyOf}
 use Rattle.records.specs.declared.CallRecord.{CallRecord}
 use Rattle.records.specs.declared.Request.{Request}
@@ -85,6 +88,9 @@ toldAnswered a =
 abbrev pub groupAlone : Group → Answer
 groupAlone g = record { group = g; symbol = 0; pulses = 0 }
 
+abbrev pub callOf : Kind → Call
+callOf kind = record { kind = kind; target = noOrder }
+
 abbrev pub afterApply : Told Step → Told Answer
 afterApply t =
     record {
@@ -98,7 +104,7 @@ afterOpen g t = record { number = t .number; value = groupAlone (ifDone (t .numb
 abbrev pub stepBy : Group → Request → Told Answer
 stepBy g Bad = record { number = refusalNumber BadRecord; value = groupAlone g }
 stepBy g (Open n) = afterOpen g (openOf n)
-stepBy g (Apply kind) = afterApply (applyOf g (record { kind = kind; target = noOrder }))
+stepBy g (Apply kind) = afterApply (applyOf g (callOf kind))
 
 unfoldable pub stepOf : Group → CallRecord → Told Answer
 stepOf g r = stepBy g (requestOf r)

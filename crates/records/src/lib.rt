@@ -1,24 +1,16 @@
 // Call records (document 01, "Calls outside the list"): `step`, the answer to one record, for any group and any record, by one equation with a
 // definition of specs/. A record is 8 bytes of an input (specs/Records); which record stands where is cited by crate `calls`, which reads them.
-use engine::Applied;
-use engine::ReadAnswer;
-use group::Changed;
 use group::Group;
 use order::Cell;
-use order::Order;
 use order::Outcome;
 use order::Refusal;
+use plain_machine::Call;
 use plain_machine::Kind;
-use writing::Written;
 ghost use mathlib.Core.Path.{_≡_};
 ghost use Rattle.order.specs.Refusals.{outcomeNumber};
-ghost use Rattle.order.specs.Order.{noOrder};
-ghost use Rattle.group.specs.Calls.{toldChanged, openOf};
-ghost use Rattle.writing.specs.Calls.{toldWritten};
-ghost use Rattle.engine.specs.Calls.{toldRead};
-ghost use Rattle.engine.specs.Scrub.{toldApplied, afterRead};
-ghost use Rattle.plain_machine.specs.Machine.{afterProgram, afterChange, applyOf};
-ghost use Rattle.records.specs.Records.{usesCell, unusedZero, requestOf, toldAnswered, groupAlone, afterApply, afterOpen, stepOf};
+ghost use Rattle.group.specs.Calls.{openOf};
+ghost use Rattle.plain_machine.specs.Machine.{applyOf};
+ghost use Rattle.records.specs.Records.{usesCell, unusedZero, requestOf, toldAnswered, groupAlone, callOf, afterApply, afterOpen, stepOf};
 
 // A call record: its two zero bytes are one field.
 pub struct CallRecord {
@@ -36,7 +28,7 @@ pub struct Answered {
     pub pulses: u32,
 }
 
-// What a record asks for.
+// What a record asks for. No record asks for a write.
 pub enum Request {
     Bad,
     Open(u32),
@@ -112,35 +104,29 @@ fn open(g: Group, n: u32) -> Answered
 {
     let opened = group::open(n as usize);
     let outcome = opened.outcome;
-    let mut group = g;
+    let fresh = opened.group;
     if let Outcome::Done = outcome {
-        let fresh = opened.group;
-        group = fresh;
+        return alone(outcome, fresh);
     }
-    alone(outcome, group)
+    alone(outcome, g)
 }
 
-// A call of the machine, by the function that the machine calls for it. No record asks for a write; one without an order is refused.
+// A call of the plain machine: what the program keeps of its answer.
 fn apply(g: Group, kind: Kind) -> Answered
-    ensures { λ a. ⌜ toldAnswered a ≡ afterApply (applyOf g (record { kind = kind; target = noOrder })) ⌝ }
+    ensures { λ a. ⌜ toldAnswered a ≡ afterApply (applyOf g (callOf kind)) ⌝ }
 {
-    match kind {
-        Kind::Write => from_written(writing::write(g, no_order()), 0),
-        Kind::Store(symbol) => from_written(engine::store(g, symbol), symbol),
-        Kind::Scrub => from_scrub(engine::scrub(g)),
-        Kind::Leak(cell, d) => from_changed(group::leak(g, cell, d)),
-        Kind::Wear(cell, cap) => from_changed(group::wear(g, cell, cap)),
-        Kind::Erase => from_changed(group::erase(g)),
-        Kind::Read => from_read(g, engine::read(g)),
-    }
-}
-
-fn no_order() -> Order
-    ensures { λ o. ⌜ o ≡ noOrder ⌝ }
-{
-    Order {
-        len: 0,
-        cells: [Cell(0); 12],
+    let call = Call {
+        kind,
+        target: order::zero_order(),
+    };
+    let answer = plain_machine::apply(g, call);
+    let outcome = answer.outcome;
+    let group = answer.group;
+    Answered {
+        outcome,
+        group,
+        symbol: answer.symbol,
+        pulses: answer.pulses,
     }
 }
 
@@ -153,61 +139,5 @@ fn alone(outcome: Outcome, group: Group) -> Answered
         group,
         symbol: 0,
         pulses: 0,
-    }
-}
-
-// What is kept of the answer of a write, or of a store of a symbol.
-fn from_written(answer: Written, symbol: u32) -> Answered
-    ensures { λ a. ⌜ toldAnswered a ≡ afterApply (afterProgram (toldWritten answer) symbol) ⌝ }
-{
-    let outcome = answer.outcome;
-    let group = answer.group;
-    let mut told: u32 = 0;
-    if let Outcome::Done = outcome {
-        told = symbol;
-    }
-    Answered {
-        outcome,
-        group,
-        symbol: told,
-        pulses: answer.pulses,
-    }
-}
-
-// What is kept of the answer of a scrub.
-fn from_scrub(answer: Applied) -> Answered
-    ensures { λ a. ⌜ toldAnswered a ≡ afterApply (toldApplied answer) ⌝ }
-{
-    let outcome = answer.outcome;
-    let group = answer.group;
-    Answered {
-        outcome,
-        group,
-        symbol: answer.symbol,
-        pulses: answer.pulses,
-    }
-}
-
-// What is kept of the answer of leak, wear or erase.
-fn from_changed(answer: Changed) -> Answered
-    ensures { λ a. ⌜ toldAnswered a ≡ afterApply (afterChange (toldChanged answer)) ⌝ }
-{
-    let outcome = answer.outcome;
-    let group = answer.group;
-    alone(outcome, group)
-}
-
-// What is kept of the answer of a read of a group, which stays as it is.
-fn from_read(g: Group, answer: ReadAnswer) -> Answered
-    ensures { λ a. ⌜ toldAnswered a ≡ afterApply (afterRead g (toldRead answer)) ⌝ }
-{
-    match answer {
-        ReadAnswer::Refused(refusal) => alone(Outcome::Refused(refusal), g),
-        ReadAnswer::Read { symbol, verdict: _ } => Answered {
-            outcome: Outcome::Done,
-            group: g,
-            symbol,
-            pulses: 0,
-        },
     }
 }

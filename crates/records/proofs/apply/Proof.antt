@@ -1,163 +1,26 @@
 -- `records::apply` meets its contract.
 -- Assumes nothing.
 use borrow.Author.Needs.{needs}
-use mathlib.Core.Path.{_≡_, sym, ap, _∙_}
-use Rattle.order.specs.Refusals.{Told}
-use Rattle.order.specs.Order.{noOrder}
-use Rattle.group.specs.declared.Group.{Group}
-use Rattle.writing.specs.Calls.{Program, writeOf}
-use Rattle.code.specs.Calls.{Reading}
-use Rattle.plain_machine.specs.declared.Kind.{Kind}
-use Rattle.plain_machine.specs.Machine.{afterProgram, afterChange, applyBy, applyOf}
-use Rattle.engine.specs.Scrub.{afterRead}
-use Rattle.records.specs.Records.{Answer, afterApply}
+use mathlib.Core.Path.{ap, _∙_}
+use Rattle.order.specs.declared.Order.{Order}
+use Rattle.plain_machine.specs.Machine.{applyOf}
+use Rattle.records.specs.Records.{afterApply}
 use Rattle.records.proofs.apply.Statement.{statement}
 use Rattle.records.proofs.apply.Tie as tie
 
-by-kind : (g : Group) (q k : Kind) → q ≡ k → afterApply (applyBy g noOrder k) ≡ afterApply (applyOf g (record { kind = q; target = noOrder }))
-unfolding applyOf
-by-kind g q k e = ap (λ (j : Kind). afterApply (applyBy g noOrder j)) (sym e)
+zero-order-requires : tie.Need-zero-order-requires
+zero-order-requires c κs = search needs
 
--- what is kept of the answer of leak, wear or erase
-abbrev changed : Told Group → Told Answer
-changed t = afterApply (afterChange t)
-
-enum-told : tie.Need-enum-told
-enum-told c = search needs
-
-no-order-requires : tie.Need-no-order-requires
-no-order-requires c κs = search needs
-
-write-requires : tie.Need-write-requires
-write-requires c κs = search needs
-
-from-written-requires : tie.Need-from-written-requires
-from-written-requires c κs = search needs
-
-enum-known-kind : tie.Need-enum-known-kind
-enum-known-kind c = search needs
-
-store-requires : tie.Need-store-requires
-store-requires c κs = search needs
-
-from-written-requires-2 : tie.Need-from-written-requires-2
-from-written-requires-2 c κs = search needs
-
-enum-told-2 : tie.Need-enum-told-2
-enum-told-2 c = search needs
-
-scrub-requires : tie.Need-scrub-requires
-scrub-requires c κs = search needs
-
-from-scrub-requires : tie.Need-from-scrub-requires
-from-scrub-requires c κs = search needs
-
-enum-known-kind-2 : tie.Need-enum-known-kind-2
-enum-known-kind-2 c = search needs
-
-leak-requires : tie.Need-leak-requires
-leak-requires c κs = search needs
-
-from-changed-requires : tie.Need-from-changed-requires
-from-changed-requires c κs = search needs
-
-enum-known-kind-3 : tie.Need-enum-known-kind-3
-enum-known-kind-3 c = search needs
-
-wear-requires : tie.Need-wear-requires
-wear-requires c κs = search needs
-
-from-changed-requires-2 : tie.Need-from-changed-requires-2
-from-changed-requires-2 c κs = search needs
-
-enum-told-3 : tie.Need-enum-told-3
-enum-told-3 c = search needs
-
-erase-requires : tie.Need-erase-requires
-erase-requires c κs = search needs
-
-from-changed-requires-3 : tie.Need-from-changed-requires-3
-from-changed-requires-3 c κs = search needs
-
-enum-told-4 : tie.Need-enum-told-4
-enum-told-4 c = search needs
-
-read-requires : tie.Need-read-requires
-read-requires c κs = search needs
-
-from-read-requires : tie.Need-from-read-requires
-from-read-requires c κs = search needs
+apply-requires : tie.Need-apply-requires
+apply-requires c κs = search needs
 
 returns : tie.Need-returns
 returns c =
-    let w = c .before in
-    let o = w .before in
-    let told = w .write .ensures ∙ ap (writeOf _) (o .no-order .ensures) in
-    c .from-written .ensures ∙ ap (λ (t : Told Program). afterApply (afterProgram t 0)) told ∙ by-kind _ _ _ (o .before .enum-told .given .1)
-
-returns-2 : tie.Need-returns-2
-returns-2 c =
-    let w = c .before in
-    let k = w .before .before in
-    c .from-written2 .ensures ∙ ap (λ (t : Told Program). afterApply (afterProgram t (k .kind .given .0 .0))) (w .store .ensures)
-    ∙ by-kind _ _ _ (k .kind .given .1)
-
-returns-3 : tie.Need-returns-3
-returns-3 c =
-    let w = c .before in
-    c .from-scrub .ensures ∙ ap afterApply (w .scrub .ensures) ∙ by-kind _ _ _ (w .before .enum-told2 .given .1)
-
-returns-4 : tie.Need-returns-4
-returns-4 c =
-    let w = c .before in
-    c .from-changed .ensures ∙ ap changed (w .leak .ensures) ∙ by-kind _ _ _ (w .before .before .kind2 .given .1)
-
-returns-5 : tie.Need-returns-5
-returns-5 c =
-    let w = c .before in
-    c .from-changed2 .ensures ∙ ap changed (w .wear .ensures) ∙ by-kind _ _ _ (w .before .before .kind3 .given .1)
-
-returns-6 : tie.Need-returns-6
-returns-6 c =
-    let w = c .before in
-    c .from-changed3 .ensures ∙ ap changed (w .erase .ensures) ∙ by-kind _ _ _ (w .before .enum-told3 .given .1)
-
-returns-7 : tie.Need-returns-7
-returns-7 c =
-    let w = c .before in
-    let g = w .before .before .before .args .g in
-    c .from-read .ensures ∙ ap (λ (t : Told Reading). afterApply (afterRead g t)) (w .read .ensures) ∙ by-kind _ _ _ (w .before .enum-told4 .given .1)
+    let m = c .before in
+    let z = m .before in
+    let args = z .before .args in
+    ap afterApply (m .apply .ensures)
+    ∙ ap (λ (o : Order). afterApply (applyOf (args .g) (record { kind = args .kind; target = o }))) (z .zero-order .ensures)
 
 pub apply-spec : {M : Type 1} → statement M
-apply-spec =
-    tie.close
-    (tie.spec
-    enum-told
-    no-order-requires
-    write-requires
-    from-written-requires
-    enum-known-kind
-    store-requires
-    from-written-requires-2
-    enum-told-2
-    scrub-requires
-    from-scrub-requires
-    enum-known-kind-2
-    leak-requires
-    from-changed-requires
-    enum-known-kind-3
-    wear-requires
-    from-changed-requires-2
-    enum-told-3
-    erase-requires
-    from-changed-requires-3
-    enum-told-4
-    read-requires
-    from-read-requires
-    returns
-    returns-2
-    returns-3
-    returns-4
-    returns-5
-    returns-6
-    returns-7)
+apply-spec = tie.close (tie.spec zero-order-requires apply-requires returns)

@@ -2,14 +2,27 @@
 -- Assumes nothing.
 use borrow.Author.Needs.{needs}
 use mathlib.Core.Path.{_≡_, refl, sym, ap, _∙_}
-use mathlib.Core.Logic.{inl, inr}
-use Rattle.order.specs.Refusals.{refusalNumber}
+use Rattle.order.specs.declared.Refusal.{Refusal}
+use Rattle.order.specs.declared.Outcome.the-variants.{Done, Refused}
+use Rattle.order.specs.Refusals.{refusalNumber, outcomeNumber, Told}
 use Rattle.order.proofs.Refusals.{refused-zeros}
 use Rattle.group.specs.declared.Group.{Group}
-use Rattle.group.specs.Calls.{toldChanged, openOf}
-use Rattle.records.specs.Records.{groupAlone}
+use Rattle.group.specs.declared.Changed.{Changed}
+use Rattle.group.specs.Calls.{toldChanged}
+use Rattle.records.specs.Records.{groupAlone, afterOpen}
 use Rattle.records.proofs.open.Statement.{statement}
 use Rattle.records.proofs.open.Tie as tie
+
+module _ (g : Group) (a : Changed) (t : Told Group) (e : toldChanged a ≡ t) where
+  -- an accepted open has its new group
+  taken : a .outcome ≡ Done → record { number = outcomeNumber (a .outcome); value = groupAlone (a .group) } ≡ afterOpen g t
+  taken d = rw d refl ∙ ap (afterOpen g) e
+
+  -- a refused one has the group that there was
+  kept : (r : Refusal) → a .outcome ≡ Refused r → record { number = outcomeNumber (a .outcome); value = groupAlone g } ≡ afterOpen g t
+  kept r d =
+      rw d (ap (λ (h : Group). record { number = refusalNumber r; value = groupAlone h }) (sym (refused-zeros {A = Group} r (a .group) g)))
+      ∙ ap (afterOpen g) e
 
 open-requires : tie.Need-open-requires
 open-requires c κs = search needs
@@ -17,27 +30,25 @@ open-requires c κs = search needs
 enum-told : tie.Need-enum-told
 enum-told c = search needs
 
-enum-told-2 : tie.Need-enum-told-2
-enum-told-2 c = search needs
-
 alone-requires : tie.Need-alone-requires
 alone-requires c κs = search needs
 
 returns : tie.Need-returns
 returns c =
-    let j = c .before in
-    let o = j .before in
-    let e : toldChanged (o .«open» .result) ≡ openOf (o .before .args .n) = o .«open» .ensures in
-    c .alone .ensures
-    ∙ elim (j .match .came) [
-      | inl d ↦ rw (sym e, d .3, d .1 .given .1) refl
-      | inr r ↦
-          let told = r .1 .given in
-          rw (sym e, r .2, told .1)
-          (ap
-          (λ (h : Group). record { number = refusalNumber (told .0 .0); value = groupAlone h })
-          (sym (refused-zeros {A = Group} (told .0 .0) (o .«open» .result .group) (o .before .args .g))))
-    ]
+    let k = c .before in
+    c .alone .ensures ∙ taken _ _ _ (k .before .before .before .«open» .ensures) (k .enum-told .given .1)
+
+enum-told-2 : tie.Need-enum-told-2
+enum-told-2 c = search needs
+
+alone-requires-2 : tie.Need-alone-requires-2
+alone-requires-2 c κs = search needs
+
+returns-2 : tie.Need-returns-2
+returns-2 c =
+    let k = c .before in
+    let told = k .enum-told2 .given in
+    c .alone2 .ensures ∙ kept _ _ _ (k .before .before .before .«open» .ensures) (told .0 .0) (told .1)
 
 pub open-spec : {M : Type 1} → statement M
-open-spec = tie.close (tie.spec open-requires enum-told enum-told-2 alone-requires returns)
+open-spec = tie.close (tie.spec open-requires enum-told alone-requires returns enum-told-2 alone-requires-2 returns-2)

@@ -2,13 +2,14 @@
 -- Assumes nothing.
 use borrow.Author.Needs.{needs}
 use mathlib.Core.Path.{sym, _∙_}
+use native.Mathlib.Omega.{arith}
 use borrow.Author.Tests.{eq-eqb, ne-eqb, le-leb, lt-leb}
 use Rattle.records.proofs.Fields.{reserved-filled, zero-celled, cell-filled, zero-valued, value-alone}
 use Rattle.records.proofs.unused_zero.Statement.{statement}
 use Rattle.records.proofs.unused_zero.Tie as tie
 
 returns : tie.Need-returns
-returns c = reserved-filled _ (ne-eqb _ _ (c .if1 .taken))
+returns c = let r = c .before .before .args .r in reserved-filled r (ne-eqb (r .reserved) 0 (c .if1 .taken))
 
 uses-cell-requires : tie.Need-uses-cell-requires
 uses-cell-requires c κs = search needs
@@ -27,7 +28,8 @@ returns-3 c =
 returns-4 : tie.Need-returns-4
 returns-4 c =
     let u = c .before .before .before .before .before in
-    zero-valued _ (eq-eqb _ _ (u .before .if1 .left)) (eq-eqb _ _ (c .before .if3 .left)) (le-leb _ _ (c .if4 .taken))
+    let r = u .before .before .before .args .r in
+    zero-valued r (eq-eqb _ _ (u .before .if1 .left)) (eq-eqb _ _ (c .before .if3 .left)) (le-leb (r .kind) 1 (omega (arith, c .if4 .taken)))
 
 returns-5 : tie.Need-returns-5
 returns-5 c =
