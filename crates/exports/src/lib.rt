@@ -9,9 +9,6 @@ ghost use lib.ListN.{length, drop};
 ghost use Rattle.code.specs.Calls.{wordsOf};
 ghost use Rattle.runs.specs.Text.{room, printed};
 
-// The most bytes of an input that are read.
-const MOST: usize = 65536;
-
 // Puts what `rmcalls` prints for an input at the start of out, and answers how many bytes that is. Where out is shorter than
 // `rm_room` of the input's length, it stays as it was, and the answer is 0.
 #[no_mangle]
@@ -27,10 +24,7 @@ pub extern "C" fn rm_run(input: &[u8], out: &mut [u8]) -> usize
 pub extern "C" fn rm_room(size: usize) -> usize
     ensures { λ r. ⌜ r ≡ room (min 65536 size) ⌝ }
 {
-    if MOST < size {
-        return 16 * MOST + 64;
-    }
-    16 * size + 64
+    runs::room_for(size)
 }
 
 // K(n), the number of codewords of n cells; 0 where n is no size.

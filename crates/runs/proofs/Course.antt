@@ -5,17 +5,17 @@ use mathlib.Core.Path.{_≡_, refl, sym, ap, _∙_, subst}
 use mathlib.Core.Logic.{_⊎_, inl, inr}
 use Prim.Native.Nat.{ℕ, zero, suc, _+_}
 use native.Mathlib.Nat.{zero-add}
-use mathlib.Core.Bool.{Bool, true, false, false≢true}
+use mathlib.Core.Bool.{Bool, true, false, false≢true, cond}
 use mathlib.Core.List.{List, [], _∷_}
+use lib.ListN.{getD}
+use Rattle.order.specs.declared.Cell.{Cell}
 use Rattle.order.specs.Refusals.{Told, ifDone, answer, numberOf}
-use Rattle.order.specs.Order.{noOrder}
 use Rattle.group.specs.declared.Group.{Group}
 use Rattle.group.specs.Record.{noGroup}
 use Rattle.group.specs.Calls.{openOf, leakOf, wearOf, eraseOf}
-use Rattle.writing.specs.Calls.{writeOf}
 use Rattle.group.proofs.Groups.{IsGroup, open-group}
 use Rattle.plain_machine.specs.declared.Kind.{Kind}
-use Rattle.plain_machine.specs.declared.Kind.the-variants.{Write, Store, Scrub, Leak, Wear, Erase, Read}
+use Rattle.plain_machine.specs.declared.Kind.the-variants.{Store, Scrub, Leak, Wear, Erase, Read}
 use Rattle.plain_machine.specs.declared.Call.{Call}
 use Rattle.engine.specs.Calls.{storeOf}
 use Rattle.engine.specs.Scrub.{scrubOf}
@@ -25,7 +25,7 @@ use Rattle.rivals.specs.Rivals.{after, pulsesOf}
 use Rattle.records.specs.declared.CallRecord.{CallRecord}
 use Rattle.records.specs.declared.Request.{Request}
 use Rattle.records.specs.declared.Request.the-variants.{Bad, Open, Apply}
-use Rattle.records.specs.Records.{Answer, requestOf, stepBy, stepOf}
+use Rattle.records.specs.Records.{Answer, unusedZero, requests, requestOf, callOf, stepBy, stepOf}
 use Rattle.runs.specs.Text.{allPulses}
 use Rattle.runs.specs.Pieces.{groupAfter}
 
@@ -43,7 +43,7 @@ NoOpen (r ∷ rs) = (isOpen (requestOf r) ≡ false) × NoOpen rs
 abbrev pub asked : Request → List Call → List Call
 asked Bad cs = cs
 asked (Open n) cs = cs
-asked (Apply kind) cs = record { kind = kind; target = noOrder } ∷ cs
+asked (Apply kind) cs = callOf kind ∷ cs
 
 abbrev pub callsOf : List CallRecord → List Call
 callsOf [] = []
@@ -90,30 +90,48 @@ stream-pulses g (r ∷ rs) h =
 abbrev pub Begun : Group → Type 0
 Begun g = (g ≡ noGroup) ⊎ IsGroup g
 
--- on the all-zero record every call is refused, and leaves it
-zero-stays : (kind : Kind) → applyOf noGroup (record { kind = kind; target = noOrder }) .value .group ≡ noGroup
-unfolding applyOf writeOf storeOf scrubOf leakOf wearOf eraseOf answer numberOf
-zero-stays Write = refl
-zero-stays (Store s) = refl
-zero-stays Scrub = refl
-zero-stays (Leak c d) = refl
-zero-stays (Wear c cap) = refl
-zero-stays Erase = refl
-zero-stays Read = refl
+-- what a request leaves
+abbrev Leaves : Group → Request → Type 0
+Leaves g q = Begun (stepBy g q .value .group)
 
-pub request-begun : (g : Group) (q : Request) → Begun g → Begun (stepBy g q .value .group)
-request-begun g Bad b = b
-request-begun g (Open n) b = opened (openOf n .number) refl
+-- a call that leaves the all-zero record, as every call of a record does
+apply-begun : (g : Group) (kind : Kind) → applyOf noGroup (callOf kind) .value .group ≡ noGroup → Begun g → Leaves g (Apply kind)
+apply-begun g kind z (inl e) = inl (ap (λ (h : Group). applyOf h (callOf kind) .value .group) e ∙ z)
+apply-begun g kind z (inr h) = inr (apply-group g (callOf kind) h)
+
+open-begun : (g : Group) (n : ℕ) → Begun g → Leaves g (Open n)
+open-begun g n b = opened (openOf n .number) refl
   where
     opened : (k : ℕ) → openOf n .number ≡ k → Begun (ifDone k (openOf n .value) g)
     opened zero e = inr (open-group n e)
     opened (suc k) e = b
-request-begun g (Apply kind) (inl e) = inl (ap (λ (h : Group). applyOf h (record { kind = kind; target = noOrder }) .value .group) e ∙ zero-stays kind)
-request-begun g (Apply kind) (inr h) = inr (apply-group g (record { kind = kind; target = noOrder }) h)
+
+-- what holds of each request holds of the one at a place, and of a bad record past them
+abbrev Each : (Request → Type 0) → List Request → Type 0
+Each P [] = Unit {0}
+Each P (q ∷ qs) = P q × Each P qs
+
+each-at : (P : Request → Type 0) (qs : List Request) (k : ℕ) → Each P qs → P Bad → P (getD qs k Bad)
+each-at P [] k h b = b
+each-at P (q ∷ qs) zero h b = h .0
+each-at P (q ∷ qs) (suc k) h b = each-at P qs k (h .1) b
+
+requests-begun : (g : Group) (c : Cell) (v : ℕ) → Begun g → Each (Leaves g) (requests c v)
+unfolding applyOf storeOf scrubOf leakOf wearOf eraseOf answer numberOf
+requests-begun g c v b =
+    let call : (kind : Kind) → applyOf noGroup (callOf kind) .value .group ≡ noGroup → Leaves g (Apply kind) = λ kind z. apply-begun g kind z b in
+    (open-begun g v b, (call (Store v) refl, (call Scrub refl, (call (Leak c v) refl, (call (Wear c v) refl, (call Erase refl, (call Read refl, tt)))))))
+
+pub request-begun : (g : Group) (r : CallRecord) → Begun g → Leaves g (requestOf r)
+unfolding requestOf
+request-begun g r b = by (unusedZero r)
+  where
+    by : (t : Bool) → Leaves g (cond t (getD (requests (r .cell) (r .value)) (r .kind) Bad) Bad)
+    by true = each-at (Leaves g) (requests (r .cell) (r .value)) (r .kind) (requests-begun g (r .cell) (r .value) b) b
+    by false = b
 
 pub step-begun : (g : Group) (r : CallRecord) → Begun g → Begun (stepOf g r .value .group)
-step-begun g r b =
-    subst (λ (t : Told Answer). Begun (t .value .group)) (sym (by-request g r (requestOf r) refl)) (request-begun g (requestOf r) b)
+step-begun g r b = subst (λ (t : Told Answer). Begun (t .value .group)) (sym (by-request g r (requestOf r) refl)) (request-begun g r b)
 
 -- the group that a stream has is the all-zero record or a group: `-` stands for the all-zero record alone
 pub stream-begun : (g : Group) (rs : List CallRecord) → Begun g → Begun (groupAfter g rs)

@@ -10,20 +10,18 @@ use lib.Dec.{leb}
 use lib.ListN.{length}
 use borrow.Author.Tests.{leb-true}
 use Rattle.order.specs.Refusals.{Told}
-use Rattle.order.specs.Order.{noOrder}
 use Rattle.order.proofs.Cells.{both}
 use Rattle.group.specs.declared.Group.{Group}
 use Rattle.group.specs.Levels.{rises}
 use Rattle.group.specs.Record.{allAtMost}
 use Rattle.group.proofs.Rows.{row-true}
 use Rattle.group.proofs.Checks.{checked-levels}
-use Rattle.plain_machine.specs.declared.Call.{Call}
 use Rattle.plain_machine.specs.Machine.{applyOf}
 use Rattle.plain_machine.proofs.Machine.{apply-rises}
 use Rattle.records.specs.declared.CallRecord.{CallRecord}
 use Rattle.records.specs.declared.Request.{Request}
 use Rattle.records.specs.declared.Request.the-variants.{Bad, Open, Apply}
-use Rattle.records.specs.Records.{Answer, requestOf, stepBy, stepOf}
+use Rattle.records.specs.Records.{Answer, requestOf, callOf, stepBy, stepOf}
 use Rattle.runs.specs.Text.{allPulses}
 use Rattle.runs.proofs.Course.{Begun, by-request, request-begun, step-begun}
 
@@ -40,18 +38,16 @@ unfolding allAtMost
 begun-levels g (inl e) = rw e (refl, refl)
 begun-levels g (inr h) = (row-true 4095 (g .n) (g .levels) (checked-levels g (h .passes)), h .levels)
 
-request-pulses : (g : Group) (q : Request) → Begun g → stepBy g q .value .pulses ≤ 49140
-request-pulses g Bad b = omega arith
-request-pulses g (Open n) b = omega arith
-request-pulses g (Apply kind) b =
-    let call : Call = record { kind = kind; target = noOrder } in
-    let new : Group = applyOf g call .value .group in
-    omega
-    (arith, apply-rises g call, rises-most (g .levels) (new .levels) (begun-levels new (request-begun g (Apply kind) b) .0), begun-levels g b .1)
+request-pulses : (g : Group) (q : Request) → Begun g → Begun (stepBy g q .value .group) → stepBy g q .value .pulses ≤ 49140
+request-pulses g Bad b n = omega arith
+request-pulses g (Open k) b n = omega arith
+request-pulses g (Apply kind) b n =
+    let new : Group = applyOf g (callOf kind) .value .group in
+    omega (arith, apply-rises g (callOf kind), rises-most (g .levels) (new .levels) (begun-levels new n .0), begun-levels g b .1)
 
 step-pulses : (g : Group) (r : CallRecord) → Begun g → stepOf g r .value .pulses ≤ 49140
 step-pulses g r b =
-    subst (λ (t : Told Answer). t .value .pulses ≤ 49140) (sym (by-request g r (requestOf r) refl)) (request-pulses g (requestOf r) b)
+    subst (λ (t : Told Answer). t .value .pulses ≤ 49140) (sym (by-request g r (requestOf r) refl)) (request-pulses g (requestOf r) b (request-begun g r b))
 
 pub pulses-most : (g : Group) (rs : List CallRecord) → Begun g → allPulses g rs ≤ 49140 * length rs
 unfolding allPulses

@@ -7,6 +7,7 @@ ghost use mathlib.Core.Path.{_≡_};
 ghost use mathlib.Core.Bool.{_&&_};
 ghost use Prim.Native.Nat.{_%_, min};
 ghost use lib.Dec.{eqb};
+ghost use Rattle.runs.specs.Text.{room};
 ghost use Rattle.runs.specs.Pieces.{beginning, takes};
 
 // The most bytes of an input that are read.
@@ -34,12 +35,7 @@ pub fn begin() -> Progress
 {
     Progress {
         position: 0,
-        group: Group {
-            n: 0,
-            levels: [0; 12],
-            caps: [0; 12],
-            written: false,
-        },
+        group: group::zero_group(),
         pulses: 0,
     }
 }
@@ -68,7 +64,14 @@ pub fn takes(position: u32, pulses: u64, size: usize, space: usize) -> bool
     if pulses > MOST_PULSES * position as u64 {
         return false;
     }
-    16 * size + 64 <= space
+    room_for(size) <= space
+}
+
+// The length that a buffer must have for the text of an input of a size, or of a piece of one.
+pub fn room_for(size: usize) -> usize
+    ensures { λ r. ⌜ r ≡ room (min 65536 size) ⌝ }
+{
+    16 * size_read(size) + 64
 }
 
 // How many of the bytes are read.

@@ -1,6 +1,8 @@
 -- `runs::goes_on` meets its contract.
 -- Assumes nothing.
 use borrow.Author.Needs.{needs}
+use Prim.Native.Nat.{_%_}
+use native.Mathlib.Omega.{arith}
 use borrow.Author.Tests.{eq-eqb, ne-eqb}
 use Rattle.runs.proofs.goes_on.Statement.{statement}
 use Rattle.runs.proofs.goes_on.Tie as tie
@@ -9,10 +11,12 @@ takes-requires : tie.Need-takes-requires
 takes-requires c κs = search needs
 
 returns : tie.Need-returns
-returns c = rw (eq-eqb _ _ (c .before .if1 .taken)) (c .takes .ensures)
+returns c =
+    let t = c .before in
+    rw (eq-eqb (t .before .args .size % 8) 0 (omega (arith, t .if1 .taken))) (c .takes .ensures)
 
 returns-2 : tie.Need-returns-2
-returns-2 c = rw (ne-eqb _ _ (c .if1 .left))
+returns-2 c = rw (ne-eqb (c .before .args .size % 8) 0 (c .if1 .left))
 
 pub goes-on-spec : {M : Type 1} → statement M
 goes-on-spec = tie.close (tie.spec takes-requires returns returns-2)

@@ -1,10 +1,12 @@
 -- `runs::takes` meets its contract.
 -- Assumes nothing.
 use borrow.Author.Needs.{needs}
-use mathlib.Core.Path.{refl}
-use Prim.Native.Nat.{_+_, _*_, _<_}
+use mathlib.Core.Path.{_≡_, refl, ap}
+use Prim.Native.Nat.{ℕ, _+_, _*_, _<_}
 use native.Mathlib.Omega.{arith}
+use lib.Dec.{leb}
 use borrow.Author.Tests.{le-leb, lt-leb}
+use Rattle.runs.specs.Text.{room}
 use Rattle.runs.proofs.takes.Statement.{statement}
 use Rattle.runs.proofs.takes.Tie as tie
 
@@ -21,7 +23,7 @@ add-if2 : tie.Need-add-if2
 add-if2 c = search needs
 
 returns-2 : tie.Need-returns-2
-returns-2 c = let args = c .before .before .args in rw (lt-leb (8 * args .position + args .size) 65536 (c .if2 .taken)) refl
+returns-2 c = let args = c .before .before .args in rw (lt-leb (8 * args .position + args .size) 65536 (omega (arith, c .if2 .taken))) refl
 
 mul-if3 : tie.Need-mul-if3
 mul-if3 c = search needs
@@ -29,18 +31,18 @@ mul-if3 c = search needs
 returns-3 : tie.Need-returns-3
 returns-3 c =
     let args = c .before .before .before .args in
-    rw (le-leb (8 * args .position + args .size) 65536 (c .before .if2 .left), lt-leb (args .pulses) (4294967295 * args .position) (c .if3 .taken)) refl
+    rw (le-leb (8 * args .position + args .size) 65536 (omega (arith, c .before .if2 .left)), lt-leb (args .pulses) (4294967295 * args .position) (c .if3 .taken)) refl
 
-mul-result : tie.Need-mul-result
-mul-result c = search needs
-
-add-result : tie.Need-add-result
-add-result c = search needs
+room-for-requires : tie.Need-room-for-requires
+room-for-requires c κs = search needs
 
 returns-4 : tie.Need-returns-4
 returns-4 c =
-    let args = c .before .before .before .args in
-    rw (le-leb (8 * args .position + args .size) 65536 (c .before .if2 .left), le-leb (args .pulses) (4294967295 * args .position) (c .if3 .left)) refl
+    let l = c .before in
+    let args = l .before .before .before .args in
+    let same : c .room-for .result ≡ room (args .size) = omega (arith, c .room-for .ensures, l .before .before .if1 .left) in
+    rw (le-leb (8 * args .position + args .size) 65536 (omega (arith, l .before .if2 .left)), le-leb (args .pulses) (4294967295 * args .position) (l .if3 .left))
+    (ap (λ (k : ℕ). leb k (args .space)) same)
 
 pub takes-spec : {M : Type 1} → statement M
-takes-spec = tie.close (tie.spec returns mul-if2 add-if2 returns-2 mul-if3 returns-3 mul-result add-result returns-4)
+takes-spec = tie.close (tie.spec returns mul-if2 add-if2 returns-2 mul-if3 returns-3 room-for-requires returns-4)
