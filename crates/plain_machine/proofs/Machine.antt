@@ -1,16 +1,17 @@
 -- The seven calls as one answer each: its checks, what it carries where all of them hold, when worn is given, and that the pulses that an
 -- answer carries are the sum of the rises.
 -- Assumes nothing.
-use Prim.Native.Nat.{ℕ, zero, suc}
+use Prim.Native.Nat.{ℕ, zero, suc, _-_}
 use mathlib.Core.Path.{_≡_, refl, sym, ap, _∙_}
 use mathlib.Core.Bool.{Bool, true, false, false≢true, cond}
 use mathlib.Core.List.{List, [], _∷_, _++_}
 use mathlib.Core.Option.{none}
 use native.Mathlib.Omega.{arith}
+use lib.Dec.{leb}
 use lib.ListN.{replicate}
 use Rattle.order.specs.declared.Order.{Order}
 use Rattle.order.specs.declared.Refusal.{Refusal}
-use Rattle.order.specs.declared.Refusal.the-variants.{NoOrder, Worn}
+use Rattle.order.specs.declared.Refusal.the-variants.{ListShort, NoOrder, Worn}
 use Rattle.order.specs.Refusals.{numberOf, ifDone, Told, answer}
 use Rattle.order.specs.Cells.{isOrder}
 use Rattle.order.specs.Order.{listed, isOrderOf}
@@ -32,9 +33,11 @@ use Rattle.writing.proofs.Orders.{order-shows}
 use Rattle.group.proofs.Checks.{checked-size}
 use Rattle.group.proofs.Groups.{IsGroup, leak-group, wear-group, erase-group}
 use Rattle.writing.proofs.Writes.{push-held, group-pushed, write-group}
+use Rattle.push_list.specs.Calls.{intoChecks, writeIntoOf}
+use Rattle.push_list.proofs.Written.{into-group}
 use Rattle.sensing.proofs.Sensed.{sensed-order}
 use Rattle.plain_machine.specs.declared.Kind.{Kind}
-use Rattle.plain_machine.specs.declared.Kind.the-variants.{Write, Store, Scrub, Leak, Wear, Erase, Read}
+use Rattle.plain_machine.specs.declared.Kind.the-variants.{Write, WriteInto, Store, Scrub, Leak, Wear, Erase, Read}
 use Rattle.plain_machine.specs.declared.Call.{Call}
 use Rattle.engine.specs.Calls.{sensedOrder, placeRead, readChecks, readingOf, readOf, storeChecks, storeOf}
 use Rattle.engine.specs.Scrub.{Step, quiet, programmedStep, wordFound, scrubChecks, scrubOf, afterRead}
@@ -53,6 +56,7 @@ readStep g r = record { group = g; symbol = r .symbol; verdict = r .verdict; pul
 
 abbrev pub acceptBy : Group → Order → Kind → Step
 acceptBy g o Write = programmedStep (pushed g (listed o)) 0 none
+acceptBy g o (WriteInto room) = programmedStep (pushed g (listed o)) 0 none
 acceptBy g o (Store s) = programmedStep (pushed g (wordOf (g .n) s)) s none
 acceptBy g o Scrub = programmedStep (pushed g (wordFound g)) (readingOf g .symbol) (readingOf g .verdict)
 acceptBy g o (Leak c d) = quiet (withLevels g (leaked (c .0) d (g .levels)))
@@ -92,8 +96,9 @@ module _ (list : List (Bool × Refusal)) (g : Group) where
       go (suc k) = refl
 
 apply-by : (g : Group) (o : Order) (k : Kind) → applyBy g o k ≡ answer (checksBy g o k) (acceptBy g o k) (quiet g)
-unfolding writeOf storeOf scrubOf leakOf wearOf eraseOf readOf
+unfolding writeOf writeIntoOf storeOf scrubOf leakOf wearOf eraseOf readOf
 apply-by g o Write = after-program (writeChecks g o) g _ _
+apply-by g o (WriteInto room) = after-program (intoChecks g o room) g _ _
 apply-by g o (Store s) = after-program (storeChecks g s) g _ _
 apply-by g o Scrub = refl
 apply-by g o (Leak c d) = after-change (cellChecks g c) g _
@@ -122,6 +127,7 @@ same-group g c = rw (apply-number g c, apply-value g c) (go (numberOf (checks g 
 group-by : (g : Group) (o : Order) (k : Kind) → IsGroup g → IsGroup (applyBy g o k .value .group)
 unfolding storeOf scrubOf answer
 group-by g o Write h = write-group g o h
+group-by g o (WriteInto room) h = into-group g o room h
 group-by g o (Store s) h =
     by-number (λ (p : Program). IsGroup (p .group)) (numberOf (storeChecks g s)) _ (unpushed g)
     (λ e. group-pushed g _ h (check-held _ _ _ (all-held _ (groupChecks g) e .1) .1)) h
@@ -168,6 +174,9 @@ target-order : (g : Group) (o : Order) (k : Kind) → writes k ≡ true → numb
 unfolding wordOf
 target-order g o Write w e =
     order-parts (g .n) o (check-held (isOrderOf (g .n) o) NoOrder [] (all-held _ (groupChecks g) e .1) .0) .1 .order
+target-order g o (WriteInto room) w e =
+    let roomy = check-held (leb (g .n - 1) room) ListShort _ (all-held _ (groupChecks g) e .1) in
+    order-parts (g .n) o (check-held (isOrderOf (g .n) o) NoOrder [] (roomy .1) .0) .1 .order
 target-order g o (Store s) w e = order-of-any (coordinateAt (wordAt (g .n) s)) (g .n)
 target-order g o Scrub w e = exchange-order (g .n) (sensedOrder g) (sensed-order (g .n) (g .levels)) (placeRead g)
 target-order g o (Leak c d) w e = absurd (false≢true w)
@@ -194,6 +203,7 @@ rises-zeros (x ∷ xs) (suc k) = omega (arith, rises-zeros xs k)
 accept-rises : (g : Group) (o : Order) (k : Kind) → rises (g .levels) (acceptBy g o k .group .levels) ≡ acceptBy g o k .pulses
 unfolding pushed
 accept-rises g o Write = refl
+accept-rises g o (WriteInto room) = refl
 accept-rises g o (Store s) = refl
 accept-rises g o Scrub = refl
 accept-rises g o (Leak c d) = rises-down (leaked-below (c .0) d (g .levels))

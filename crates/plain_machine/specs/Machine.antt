@@ -1,18 +1,19 @@
--- Document 01, "The plain machine": the seven calls of demand 3 as one machine.
+-- Document 01, "The plain machine": the seven calls of demand 3 as one machine. A write has two forms: its pushes come back by value, or go into a
+-- lent list, of which the machine knows the room.
 --
 --   writes k            the calls that raise cells: write, store and scrub
 --   target g c          the order that such a call is to show; another call has the empty target
 --   earlierChecks g c   the checks of a call that run before 8, in the order in which they run
 --   checks g c          all of them: a write, a store or a scrub is checked for 8 last
 --   applyOf g c         the answer to `apply`: one call of the plain machine
-use Prim.Native.Nat.{ℕ}
+use Prim.Native.Nat.{ℕ, _-_}
 use mathlib.Core.Bool.{Bool, true, false, cond}
 use mathlib.Core.List.{List, [], _∷_, _++_}
 use mathlib.Core.Option.{none}
-use lib.Dec.{ltb}
+use lib.Dec.{leb, ltb}
 use Rattle.order.specs.declared.Order.{Order}
 use Rattle.order.specs.declared.Refusal.{Refusal}
-use Rattle.order.specs.declared.Refusal.the-variants.{NoOrder, NoSymbol}
+use Rattle.order.specs.declared.Refusal.the-variants.{ListShort, NoOrder, NoSymbol}
 use Rattle.order.specs.Refusals.{ifDone, Told}
 use Rattle.order.specs.Order.{listed, isOrderOf}
 use Rattle.code.specs.Words.{K}
@@ -21,16 +22,18 @@ use Rattle.group.specs.declared.Group.{Group}
 use Rattle.group.specs.Record.{groupChecks}
 use Rattle.group.specs.Calls.{cellChecks, wearChecks, leakOf, wearOf, eraseOf}
 use Rattle.writing.specs.Calls.{Program, pushChecks, writeOf}
+use Rattle.push_list.specs.Calls.{writeIntoOf}
 use Rattle.engine.specs.Calls.{readChecks, readOf, storeOf}
 use Rattle.engine.specs.Scrub.{Step, quiet, programmedStep, afterRead, wordFound, scrubOf}
 use Rattle.plain_machine.specs.declared.Kind.{Kind}
-use Rattle.plain_machine.specs.declared.Kind.the-variants.{Write, Store, Scrub, Leak, Wear, Erase, Read}
+use Rattle.plain_machine.specs.declared.Kind.the-variants.{Write, WriteInto, Store, Scrub, Leak, Wear, Erase, Read}
 use Rattle.plain_machine.specs.declared.Call.{Call}
 
 -- ---- the seven calls
 
 abbrev pub writes : Kind → Bool
 writes Write = true
+writes (WriteInto room) = true
 writes (Store s) = true
 writes Scrub = true
 writes (Leak c d) = false
@@ -40,6 +43,7 @@ writes Read = false
 
 abbrev pub targetBy : Group → Order → Kind → List ℕ
 targetBy g o Write = listed o
+targetBy g o (WriteInto room) = listed o
 targetBy g o (Store s) = wordOf (g .n) s
 targetBy g o Scrub = wordFound g
 targetBy g o (Leak c d) = []
@@ -52,6 +56,7 @@ target g c = targetBy g (c .target) (c .kind)
 
 abbrev pub earlierBy : Group → Order → Kind → List (Bool × Refusal)
 earlierBy g o Write = groupChecks g ++ (isOrderOf (g .n) o, NoOrder) ∷ []
+earlierBy g o (WriteInto room) = groupChecks g ++ (leb (g .n - 1) room, ListShort) ∷ (isOrderOf (g .n) o, NoOrder) ∷ []
 earlierBy g o (Store s) = groupChecks g ++ (ltb s (K (g .n)), NoSymbol) ∷ []
 earlierBy g o Scrub = readChecks g
 earlierBy g o (Leak c d) = cellChecks g c
@@ -77,6 +82,7 @@ afterChange t = record { number = t .number; value = quiet (t .value) }
 
 abbrev pub applyBy : Group → Order → Kind → Told Step
 applyBy g o Write = afterProgram (writeOf g o) 0
+applyBy g o (WriteInto room) = afterProgram (writeIntoOf g o room) 0
 applyBy g o (Store s) = afterProgram (storeOf g s) s
 applyBy g o Scrub = scrubOf g
 applyBy g o (Leak c d) = afterChange (leakOf g c d)

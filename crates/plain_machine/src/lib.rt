@@ -15,9 +15,11 @@ ghost use Rattle.writing.specs.Calls.{toldWritten};
 ghost use Rattle.engine.specs.Scrub.{toldApplied};
 ghost use Rattle.plain_machine.specs.Machine.{afterProgram, afterChange, applyOf};
 
-// One of the seven calls of demand 3, with its numbers. The order of a write stands beside it in the call.
+// One of the seven calls of demand 3, with its numbers. The order of a write stands beside it in the call; a write whose pushes go into a lent
+// list has the room of the list, that is, how many places it has.
 pub enum Kind {
     Write,
+    WriteInto(usize),
     Store(u32),
     Scrub,
     Leak(Cell, u32),
@@ -39,6 +41,7 @@ pub fn apply(g: Group, call: Call) -> Applied
     let kind = call.kind;
     match kind {
         Kind::Write => from_written(writing::write(g, target), 0),
+        Kind::WriteInto(room) => from_written(push_list::write_with_room(g, target, room), 0),
         Kind::Store(symbol) => from_written(engine::store(g, symbol), symbol),
         Kind::Scrub => engine::scrub(g),
         Kind::Leak(cell, d) => from_changed(group::leak(g, cell, d)),

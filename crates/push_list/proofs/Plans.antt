@@ -1,4 +1,4 @@
--- What a plan tells of the answer and of the list; that its pushes have room; and that with room enough it is what a write answers.
+-- What a plan tells of the list; that its pushes have room; and that with room enough it is what a write answers.
 -- Assumes nothing.
 use Prim.Native.Nat.{ℕ, zero, suc, _-_, _≤_, zero-le}
 use mathlib.Core.Path.{_≡_, refl}
@@ -21,8 +21,7 @@ use Rattle.group.specs.Record.{groupChecks}
 use Rattle.writing.specs.Calls.{Program, pushed, writeOf}
 use Rattle.group.proofs.Checks.{checked-size}
 use Rattle.writing.proofs.Raising.{few-pushes}
-use Rattle.push_list.specs.Calls.{intoChecks, Carried, carried, writeIntoOf, filled, listAfter}
-use Rattle.push_list.specs.Steps.{planOf}
+use Rattle.push_list.specs.Calls.{intoChecks, writeIntoOf, filled, listAfter}
 
 -- a number is 0, or another
 pub either : {P : Type 0} (n : ℕ) → (n ≡ 0 → P) → ((k : ℕ) → n ≡ suc k → P) → P
@@ -36,20 +35,14 @@ held-between [] later b r e = rw e
 held-between ((true, s) ∷ first) later b r e = held-between first later b r e
 held-between ((false, s) ∷ first) later b r e = refl
 
--- what a plan tells of the answer, and of a list
-abbrev pub answerOf : Told Program → Told Carried
-answerOf t = record { number = t .number; value = carried (t .value) }
-
+-- what a plan tells of a list
 abbrev pub filledBy : Told Program → List Push → List Push
 filledBy t list = filled (t .value .count) (t .value .pushes) list
 
 module _ (g : Group) (o : Order) where
-  pub plan-answer : (room : ℕ) → answerOf (planOf g o room) ≡ writeIntoOf g o room
-  unfolding planOf writeIntoOf answer
-  plan-answer room = either (numberOf (intoChecks g o room)) (λ e. rw e) (λ k e. rw e)
-
-  pub plan-list : (list : List Push) → filledBy (planOf g o (length list)) list ≡ listAfter g o list
-  unfolding planOf listAfter answer
+  -- a refused write has no pushes
+  pub plan-list : (list : List Push) → filledBy (writeIntoOf g o (length list)) list ≡ listAfter g o list
+  unfolding writeIntoOf listAfter answer
   plan-list list = either (numberOf (intoChecks g o (length list))) (λ e. rw e) (λ k e. rw e)
 
   -- an order of n cells takes at most n - 1 pushes
@@ -58,8 +51,8 @@ module _ (g : Group) (o : Order) where
   program-short e =
       omega (arith, few-pushes 1 (g .levels) (listed o), length-take (o .len) (cellNumbers o), order-parts (g .n) o e .1 .long)
 
-  pub plan-fits : (room : ℕ) → (planOf g o room .value .count ≤ 11) × (planOf g o room .value .count ≤ room)
-  unfolding planOf answer
+  pub plan-fits : (room : ℕ) → (writeIntoOf g o room .value .count ≤ 11) × (writeIntoOf g o room .value .count ≤ room)
+  unfolding writeIntoOf answer
   plan-fits room =
       either (numberOf (intoChecks g o room))
       (λ e.
@@ -70,6 +63,6 @@ module _ (g : Group) (o : Order) where
       rw e (omega (arith, short, checked-size g (t .0)), omega (arith, short, enough)))
       (λ k e. rw e (zero-le, zero-le))
 
-  pub plan-written : (room : ℕ) → leb (g .n - 1) room ≡ true → planOf g o room ≡ writeOf g o
-  unfolding planOf writeOf answer
-  plan-written room e = rw (held-between (groupChecks g) _ _ ListShort e)
+  pub room-written : (room : ℕ) → leb (g .n - 1) room ≡ true → writeIntoOf g o room ≡ writeOf g o
+  unfolding writeIntoOf writeOf answer
+  room-written room e = rw (held-between (groupChecks g) _ _ ListShort e)

@@ -10,28 +10,37 @@ use Rattle.order.specs.declared.Order.{Order}
 use Rattle.order.specs.declared.Refusal.the-variants.{ListShort}
 use Rattle.order.specs.Refusals.{numberOf, Told, answer}
 use Rattle.order.specs.Order.{listed}
-use Rattle.order.proofs.Refusals.{later-decide, check-fails, told-refused}
+use Rattle.order.proofs.Refusals.{check-held, all-held, later-decide, check-fails, told-refused}
 use Rattle.group.specs.declared.Group.{Group}
 use Rattle.writing.specs.declared.Push.{Push}
 use Rattle.group.specs.Record.{groupChecks}
 use Rattle.writing.specs.PushUp.{singles, pushes}
 use Rattle.writing.specs.Calls.{Program, pushed, unpushed, writeOf}
-use Rattle.push_list.specs.Calls.{intoChecks, carried, writeIntoOf, filled, listAfter}
-use Rattle.push_list.proofs.Plans.{either, answerOf, filledBy, plan-answer, plan-list, plan-written}
+use Rattle.group.proofs.Groups.{IsGroup}
+use Rattle.writing.proofs.Writes.{group-pushed}
+use Rattle.push_list.specs.Calls.{intoChecks, writeIntoOf, filled, listAfter}
+use Rattle.push_list.proofs.Plans.{either, filledBy, plan-list, room-written}
 
 module _ (g : Group) (o : Order) where
   -- ---- with room enough
 
-  pub into-written : (room : ℕ) → g .n - 1 ≤ room → writeIntoOf g o room ≡ record { number = writeOf g o .number; value = carried (writeOf g o .value) }
-  into-written room l = sym (plan-answer g o room) ∙ ap answerOf (plan-written g o room (le-leb _ _ l))
+  pub into-written : (room : ℕ) → g .n - 1 ≤ room → writeIntoOf g o room ≡ writeOf g o
+  into-written room l = room-written g o room (le-leb _ _ l)
 
   pub list-written : (list : List Push) → g .n - 1 ≤ length list → listAfter g o list ≡ filled (writeOf g o .value .count) (writeOf g o .value .pushes) list
-  list-written list l = sym (plan-list g o list) ∙ ap (λ (t : Told Program). filledBy t list) (plan-written g o (length list) (le-leb _ _ l))
+  list-written list l = sym (plan-list g o list) ∙ ap (λ (t : Told Program). filledBy t list) (into-written (length list) l)
+
+  -- a group stays a group
+  pub into-group : (room : ℕ) → IsGroup g → IsGroup (writeIntoOf g o room .value .group)
+  unfolding writeIntoOf answer
+  into-group room h =
+      either (numberOf (intoChecks g o room))
+      (λ e. rw e (group-pushed g (listed o) h (check-held _ _ _ (check-held _ _ _ (all-held _ (groupChecks g) e .1) .1) .1))) (λ k e. rw e h)
 
   -- ---- refused
 
   -- a list of fewer than n - 1 places
-  pub into-short : (room : ℕ) → numberOf (groupChecks g) ≡ 0 → room < g .n - 1 → writeIntoOf g o room ≡ record { number = 10; value = carried (unpushed g) }
+  pub into-short : (room : ℕ) → numberOf (groupChecks g) ≡ 0 → room < g .n - 1 → writeIntoOf g o room ≡ record { number = 10; value = unpushed g }
   unfolding writeIntoOf
   into-short room d l = sym (told-refused _ _ _ ListShort (later-decide _ (groupChecks g) d ∙ check-fails _ _ (lt-leb _ _ l)))
 

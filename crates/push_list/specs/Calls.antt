@@ -1,10 +1,10 @@
 -- Document 01, "Refusal table": the call that fills a lent list of pushes.
 --
 --   intoChecks g o room     the checks of a write into a list of so many places: 1, 2, 10, 4, 8
---   Carried                 what the answer carries: the group, the pulses, how many pushes
---   carried p               so much of what the answer to a write carries; the pushes are in the list
---   toldInto a              what the answer to a write into a list says: its number, and what it carries
---   writeIntoOf g o room    the answer
+--   writeIntoOf g o room    what such a write answers, with its pushes by value: that of a write, but that 10 is checked too
+--   Carried                 what the answer beside a lent list carries: the group, the pulses, how many pushes
+--   carriedOf t             so much of what a write answers; the pushes are in the list
+--   toldInto a              what the answer beside a lent list says: its number, and what it carries
 --   filled k ps list        the first k of the pushes, then the later places of the list as they were
 --   listAfter g o list      the lent list after the call: the pushes first and the later places untouched; a refusal leaves it as it was
 --   toldLent a              what the answer to `lend` says: that of the write, and the list
@@ -17,7 +17,7 @@ use lib.ListN.{length, take, drop}
 use Rattle.order.specs.declared.Order.{Order}
 use Rattle.order.specs.declared.Refusal.{Refusal}
 use Rattle.order.specs.declared.Refusal.the-variants.{ListShort, NoOrder}
-use Rattle.order.specs.Refusals.{outcomeNumber, numberOf, ifDone, Told, answer}
+use Rattle.order.specs.Refusals.{outcomeNumber, ifDone, Told, answer}
 use Rattle.order.specs.Order.{listed, isOrderOf}
 use Rattle.group.specs.declared.Group.{Group}
 use Rattle.writing.specs.declared.Push.{Push}
@@ -32,19 +32,19 @@ abbrev pub intoChecks : Group → Order → ℕ → List (Bool × Refusal)
 intoChecks g o room =
     groupChecks g ++ (leb (g .n - 1) room, ListShort) ∷ (isOrderOf (g .n) o, NoOrder) ∷ pushChecks g (listed o)
 
+unfoldable pub writeIntoOf : Group → Order → ℕ → Told Program
+writeIntoOf g o room = answer (intoChecks g o room) (pushed g (listed o)) (unpushed g)
+
 pub record Carried : Type 0 where
   pub group : Group
   pub pulses : ℕ
   pub count : ℕ
 
-abbrev pub carried : Program → Carried
-carried p = record { group = p .group; pulses = p .pulses; count = p .count }
+abbrev pub carriedOf : Told Program → Told Carried
+carriedOf t = record { number = t .number; value = record { group = t .value .group; pulses = t .value .pulses; count = t .value .count } }
 
 abbrev pub toldInto : WrittenInto → Told Carried
 toldInto a = record { number = outcomeNumber (a .outcome); value = record { group = a .group; pulses = a .pulses; count = a .count } }
-
-unfoldable pub writeIntoOf : Group → Order → ℕ → Told Carried
-writeIntoOf g o room = answer (intoChecks g o room) (carried (pushed g (listed o))) (carried (unpushed g))
 
 -- ---- the list
 
@@ -53,8 +53,8 @@ filled k ps list = take k ps ++ drop k list
 
 unfoldable pub listAfter : Group → Order → List Push → List Push
 listAfter g o list =
-    let p = pushed g (listed o) in
-    ifDone (numberOf (intoChecks g o (length list))) (filled (p .count) (p .pushes) list) list
+    let t = writeIntoOf g o (length list) in
+    ifDone (t .number) (filled (t .value .count) (t .value .pushes) list) list
 
 -- ---- a list held by value
 
@@ -64,4 +64,4 @@ toldLent a = (toldInto (a .answer), a .list)
 unfoldable pub lendOf : Group → Order → List Push → ℕ → Told Carried × List Push
 lendOf g o list room =
     let places = min room 12 in
-    (writeIntoOf g o places, listAfter g o (take places list) ++ drop places list)
+    (carriedOf (writeIntoOf g o places), listAfter g o (take places list) ++ drop places list)

@@ -1,6 +1,6 @@
 // The lent list of pushes (document 01: "The call that fills a lent list of pushes writes the pushes first and leaves the later places
-// untouched"). What is written there is decided by value, in `decide`; only `fill`, `write_into` and `lend` have a slice of pushes, and
-// these three are proved by hand. Each public function takes any record; equations fix its answer and its list. Proved
+// untouched"). What is written there is decided by value, in `write_with_room`; only `fill`, `write_into` and `lend` have a slice of pushes,
+// and these three are proved by hand. Each public function takes any record; equations fix its answer and its list. Proved
 // besides: with room enough the answer is that of `writing::write`, and the list starts with its pushes (proofs/Written).
 use group::Group;
 use order::Order;
@@ -12,8 +12,8 @@ ghost use mathlib.Core.Path.{_≡_};
 ghost use Prim.Native.Nat.{_≤_, min};
 ghost use lib.ListN.{length};
 ghost use Rattle.writing.specs.Calls.{toldWritten};
-ghost use Rattle.push_list.specs.Calls.{filled, toldInto, writeIntoOf, listAfter, toldLent, lendOf};
-ghost use Rattle.push_list.specs.Steps.{toldPlan, planOf};
+ghost use Rattle.push_list.specs.Calls.{writeIntoOf, carriedOf, toldInto, filled, listAfter, toldLent, lendOf};
+ghost use Rattle.push_list.specs.Steps.{toldPlan};
 
 // The answer of a write into a lent list: the pushes are the first count places of the list, from low to high.
 pub struct WrittenInto {
@@ -37,7 +37,7 @@ struct Plan {
 
 // Minimal push-up to an order, with its pushes in a lent list. A refused write has none, and leaves the list as it was.
 pub fn write_into(g: Group, target: Order, list: &mut [Push]) -> WrittenInto
-    ensures { λ r. ⌜ (toldInto r ≡ writeIntoOf g target (length (now (list .entry)))) × (now (list .exit) ≡ listAfter g target (now (list .entry))) ⌝ }
+    ensures { λ r. ⌜ (toldInto r ≡ carriedOf (writeIntoOf g target (length (now (list .entry))))) × (now (list .exit) ≡ listAfter g target (now (list .entry))) ⌝ }
 {
     let plan = decide(g, target, list.len());
     let pushes = plan.pushes;
@@ -46,18 +46,25 @@ pub fn write_into(g: Group, target: Order, list: &mut [Push]) -> WrittenInto
     plan.answer
 }
 
-// All of the call but the list: what it answers and pushes where the list has so many places. 10 is checked after 2 and before 4.
+// All of the call but the list.
 fn decide(g: Group, target: Order, room: usize) -> Plan
-    ensures { λ r. ⌜ toldPlan r ≡ planOf g target room ⌝ }
+    ensures { λ r. ⌜ toldPlan r ≡ writeIntoOf g target room ⌝ }
+{
+    plan_of(write_with_room(g, target, room))
+}
+
+// What a write into a list of so many places answers, with its pushes by value. 10 is checked after 2 and before 4.
+pub fn write_with_room(g: Group, target: Order, room: usize) -> Written
+    ensures { λ r. ⌜ toldWritten r ≡ writeIntoOf g target room ⌝ }
 {
     let checked = group::check(g);
     let Outcome::Done = checked else {
-        return plan_of(writing::unwritten(checked, g));
+        return writing::unwritten(checked, g);
     };
     if room < g.n - 1 {
-        return plan_of(writing::unwritten(Outcome::Refused(Refusal::ListShort), g));
+        return writing::unwritten(Outcome::Refused(Refusal::ListShort), g);
     }
-    plan_of(writing::write(g, target))
+    writing::write(g, target)
 }
 
 // The answer of a write, with its pushes beside it.

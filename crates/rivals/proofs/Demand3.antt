@@ -25,7 +25,7 @@ use Rattle.writing.proofs.Raise.{raise-above, raise-least}
 use Rattle.group.proofs.Groups.{IsGroup, open-group}
 use Rattle.writing.proofs.Writes.{push-holds, fits-where}
 use Rattle.plain_machine.specs.declared.Kind.{Kind}
-use Rattle.plain_machine.specs.declared.Kind.the-variants.{Write, Store, Scrub, Leak, Wear, Erase, Read}
+use Rattle.plain_machine.specs.declared.Kind.the-variants.{Write, WriteInto, Store, Scrub, Leak, Wear, Erase, Read}
 use Rattle.plain_machine.specs.declared.Call.{Call}
 use Rattle.engine.specs.Scrub.{quiet}
 use Rattle.plain_machine.specs.Machine.{writes, targetBy, target, earlierChecks, applyOf, checks}
@@ -78,6 +78,7 @@ beside-accept : (g : Group) (q : ℕ) (o : Order) (k : Kind) (r s : Rival) → F
     → Beside (acceptBy g o k .group) (q + acceptBy g o k .pulses) s
 unfolding Follows
 beside-accept g q o Write r s m b = beside-push g q r s _ m b
+beside-accept g q o (WriteInto room) r s m b = beside-push g q r s _ m b
 beside-accept g q o (Store symbol) r s m b = beside-push g q r s _ m b
 beside-accept g q o Scrub r s m b = beside-push g q r s _ m b
 beside-accept g q o (Leak c d) r s m b =
@@ -132,6 +133,7 @@ our-accept : (g : Group) (q : ℕ) (o : Order) (k : Kind) → IsGroup g → numb
     → Follows k (targetBy g o k) (standing g q) (standing (acceptBy g o k .group) (q + acceptBy g o k .pulses))
 unfolding Follows
 our-accept g q o Write h e = our-raise g q (record { kind = Write; target = o }) h refl e
+our-accept g q o (WriteInto room) h e = our-raise g q (record { kind = WriteInto room; target = o }) h refl e
 our-accept g q o (Store s) h e = our-raise g q (record { kind = Store s; target = o }) h refl e
 our-accept g q o Scrub h e = our-raise g q (record { kind = Scrub; target = o }) h refl e
 our-accept g q o (Leak c d) h e = rw add-zero

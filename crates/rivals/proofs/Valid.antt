@@ -47,7 +47,7 @@ use Rattle.writing.proofs.Orders.{Falling, falling-shows, order-shows}
 use Rattle.group.proofs.Groups.{IsGroup}
 use Rattle.writing.proofs.Writes.{push-held, push-holds, group-pushed, fits-where}
 use Rattle.plain_machine.specs.declared.Kind.{Kind}
-use Rattle.plain_machine.specs.declared.Kind.the-variants.{Write, Store, Scrub, Leak, Wear, Erase, Read}
+use Rattle.plain_machine.specs.declared.Kind.the-variants.{Write, WriteInto, Store, Scrub, Leak, Wear, Erase, Read}
 use Rattle.plain_machine.specs.declared.Call.{Call}
 use Rattle.engine.specs.Calls.{sensedOrder, placeRead}
 use Rattle.engine.specs.Scrub.{Step, quiet, wordFound, scrubChecks}
@@ -74,6 +74,7 @@ module _ (g : Group) (e : numberOf (groupChecks g) ≡ 0) where
 
   other-by : (o : Order) (k : Kind) → Other (numberOf (checksBy g o k))
   other-by o Write = past _ (lit< tt, (lit< tt, tt))
+  other-by o (WriteInto room) = past _ (lit< tt, (lit< tt, (lit< tt, tt)))
   other-by o (Store s) = past _ (lit< tt, (lit< tt, tt))
   other-by o Scrub = past _ (lit< tt, (lit< tt, (lit< tt, tt)))
   other-by o (Leak c d) = past _ (lit< tt, tt)

@@ -2,7 +2,8 @@
 -- The claim is about any machine that answers calls. That ours meets it is the theorem `demand3-open` (proofs/Demand3) about `applyOf`, which is
 -- the whole answer of the public function `apply` by its contract. Of a machine's answers it speaks of the number, the pulses and the group:
 -- of its levels and caps beside the rivals', and of the whole record in the checks of the call that comes next. The symbol, the verdict and
--- the pushes are fixed by the contracts alone.
+-- the pushes are fixed by the contracts alone. A list of calls may hold writes into a lent list, of which a call has the room: `writeIntoOf` is both
+-- the answer of the machine to such a call and, by its contract, that of `push_list::write_into`. The lent list is no part of a rival.
 --
 --   Rival               a rival at one moment: levels and caps, as a group has them, and its pulses
 --   standing g q        our group, with q pulses so far, as a rival stands
@@ -36,7 +37,7 @@ use Rattle.group.specs.Levels.{put, AtMost, rises, leaked}
 use Rattle.writing.specs.PushUp.{singles, Shows}
 use Rattle.group.specs.Calls.{openOf}
 use Rattle.plain_machine.specs.declared.Kind.{Kind}
-use Rattle.plain_machine.specs.declared.Kind.the-variants.{Write, Store, Scrub, Leak, Wear, Erase, Read}
+use Rattle.plain_machine.specs.declared.Kind.the-variants.{Write, WriteInto, Store, Scrub, Leak, Wear, Erase, Read}
 use Rattle.plain_machine.specs.declared.Call.{Call}
 use Rattle.engine.specs.Scrub.{Step}
 use Rattle.plain_machine.specs.Machine.{writes, target, checks, earlierChecks, applyOf}
@@ -64,6 +65,7 @@ pub record Raised (t : List ℕ) (r s : Rival) : Type 0 where
 
 unfoldable pub Follows : Kind → List ℕ → Rival → Rival → Type 0
 Follows Write t r s = Raised t r s
+Follows (WriteInto room) t r s = Raised t r s
 Follows (Store symbol) t r s = Raised t r s
 Follows Scrub t r s = Raised t r s
 Follows (Leak c d) t r s = s ≡ lowered r (leaked (c .0) d (r .levels))

@@ -28,11 +28,20 @@ from-written-requires c κs = search needs
 enum-known-kind : tie.Need-enum-known-kind
 enum-known-kind c = search needs
 
-store-requires : tie.Need-store-requires
-store-requires c κs = search needs
+write-with-room-requires : tie.Need-write-with-room-requires
+write-with-room-requires c κs = search needs
 
 from-written-requires-2 : tie.Need-from-written-requires-2
 from-written-requires-2 c κs = search needs
+
+enum-known-kind-2 : tie.Need-enum-known-kind-2
+enum-known-kind-2 c = search needs
+
+store-requires : tie.Need-store-requires
+store-requires c κs = search needs
+
+from-written-requires-3 : tie.Need-from-written-requires-3
+from-written-requires-3 c κs = search needs
 
 enum-told-2 : tie.Need-enum-told-2
 enum-told-2 c = search needs
@@ -40,8 +49,8 @@ enum-told-2 c = search needs
 scrub-requires : tie.Need-scrub-requires
 scrub-requires c κs = search needs
 
-enum-known-kind-2 : tie.Need-enum-known-kind-2
-enum-known-kind-2 c = search needs
+enum-known-kind-3 : tie.Need-enum-known-kind-3
+enum-known-kind-3 c = search needs
 
 leak-requires : tie.Need-leak-requires
 leak-requires c κs = search needs
@@ -49,8 +58,8 @@ leak-requires c κs = search needs
 from-changed-requires : tie.Need-from-changed-requires
 from-changed-requires c κs = search needs
 
-enum-known-kind-3 : tie.Need-enum-known-kind-3
-enum-known-kind-3 c = search needs
+enum-known-kind-4 : tie.Need-enum-known-kind-4
+enum-known-kind-4 c = search needs
 
 wear-requires : tie.Need-wear-requires
 wear-requires c κs = search needs
@@ -86,32 +95,38 @@ returns-2 : tie.Need-returns-2
 returns-2 c =
     let w = c .before in
     let k = w .before .before in
-    c .from-written2 .ensures ∙ ap (λ (t : Told Program). afterProgram t (k .kind .given .0 .0)) (w .store .ensures) ∙ by-kind _ _ _ (k .kind .given .1)
+    c .from-written2 .ensures ∙ ap (λ (t : Told Program). afterProgram t 0) (w .write-with-room .ensures) ∙ by-kind _ _ _ (k .kind .given .1)
 
 returns-3 : tie.Need-returns-3
 returns-3 c =
-    c .scrub .ensures ∙ by-kind _ _ _ (c .before .enum-told2 .given .1)
+    let w = c .before in
+    let k = w .before .before in
+    c .from-written3 .ensures ∙ ap (λ (t : Told Program). afterProgram t (k .kind2 .given .0 .0)) (w .store .ensures) ∙ by-kind _ _ _ (k .kind2 .given .1)
 
 returns-4 : tie.Need-returns-4
 returns-4 c =
-    let w = c .before in
-    let k = w .before .before in
-    c .from-changed .ensures ∙ ap afterChange (w .leak .ensures) ∙ by-kind _ _ _ (k .kind2 .given .1)
+    c .scrub .ensures ∙ by-kind _ _ _ (c .before .enum-told2 .given .1)
 
 returns-5 : tie.Need-returns-5
 returns-5 c =
     let w = c .before in
     let k = w .before .before in
-    c .from-changed2 .ensures ∙ ap afterChange (w .wear .ensures) ∙ by-kind _ _ _ (k .kind3 .given .1)
+    c .from-changed .ensures ∙ ap afterChange (w .leak .ensures) ∙ by-kind _ _ _ (k .kind3 .given .1)
 
 returns-6 : tie.Need-returns-6
 returns-6 c =
     let w = c .before in
-    let k = w .before in
-    c .from-changed3 .ensures ∙ ap afterChange (w .erase .ensures) ∙ by-kind _ _ _ (k .enum-told3 .given .1)
+    let k = w .before .before in
+    c .from-changed2 .ensures ∙ ap afterChange (w .wear .ensures) ∙ by-kind _ _ _ (k .kind4 .given .1)
 
 returns-7 : tie.Need-returns-7
 returns-7 c =
+    let w = c .before in
+    let k = w .before in
+    c .from-changed3 .ensures ∙ ap afterChange (w .erase .ensures) ∙ by-kind _ _ _ (k .enum-told3 .given .1)
+
+returns-8 : tie.Need-returns-8
+returns-8 c =
     let w = c .before in
     let k = w .before in
     c .from-read .ensures ∙ ap (afterRead _) (w .read .ensures) ∙ by-kind _ _ _ (k .enum-told4 .given .1)
@@ -124,14 +139,17 @@ apply-spec =
     write-requires
     from-written-requires
     enum-known-kind
-    store-requires
+    write-with-room-requires
     from-written-requires-2
+    enum-known-kind-2
+    store-requires
+    from-written-requires-3
     enum-told-2
     scrub-requires
-    enum-known-kind-2
+    enum-known-kind-3
     leak-requires
     from-changed-requires
-    enum-known-kind-3
+    enum-known-kind-4
     wear-requires
     from-changed-requires-2
     enum-told-3
@@ -146,4 +164,5 @@ apply-spec =
     returns-4
     returns-5
     returns-6
-    returns-7)
+    returns-7
+    returns-8)

@@ -59,7 +59,7 @@ use Rattle.writing.proofs.Push as Push′
 use Rattle.writing.proofs.Push.Laws as Push″
 use Rattle.push_list.specs.declared.WrittenInto.{WrittenInto}
 use Rattle.push_list.specs.declared.Lent.{Lent}
-use Rattle.push_list.specs.Calls.{toldInto, writeIntoOf, listAfter, toldLent, lendOf}
+use Rattle.push_list.specs.Calls.{toldInto, writeIntoOf, carriedOf, listAfter, toldLent, lendOf}
 use Rattle.push_list.proofs.Arrays.{slot-apart, slot-some, are-items}
 use Rattle.push_list.proofs.Pushes.{R, Pushes, pushes, spelled, tells, makes, all-typed}
 use Rattle.push_list.proofs.Walking.{local, args1, args2, args3, sets, lands-in, free-cell, has, Callee, calls-value}
@@ -101,7 +101,7 @@ WriteInto 𝓤 H A mem′ run = Callee 𝓤 H A write-into.ended (write-into.cla
 
 -- what `write_into` ensures of a list
 abbrev Ensured : Group → Order → List Push → WrittenInto → List Push → Type 0
-Ensured g t ys r zs = (toldInto r ≡ writeIntoOf g t (length ys)) × (zs ≡ listAfter g t ys)
+Ensured g t ys r zs = (toldInto r ≡ carriedOf (writeIntoOf g t (length ys))) × (zs ≡ listAfter g t ys)
 
 -- the places that are lent
 module _ (xs : List Push) (room n : ℕ) (counted : length xs ≡ 12) (e : n ≡ min room 12) where
@@ -122,7 +122,7 @@ module _ (xs : List Push) (room n : ℕ) (counted : length xs ≡ 12) (e : n ≡
       → toldLent (record { answer = r; list = zs ++ drop n xs }) ≡ lendOf g t xs room
   unfolding lendOf
   said g t r zs (p, q) =
-      let told : toldInto r ≡ writeIntoOf g t (min room 12) = p ∙ ap (writeIntoOf g t) (long ∙ e) in
+      let told : toldInto r ≡ carriedOf (writeIntoOf g t (min room 12)) = p ∙ ap (λ (k : ℕ). carriedOf (writeIntoOf g t k)) (long ∙ e) in
       let list : zs ++ drop n xs ≡ listAfter g t (take (min room 12) xs) ++ drop (min room 12) xs =
       ap (λ (ws : List Push). ws ++ drop n xs) q ∙ ap (λ (k : ℕ). listAfter g t (take k xs) ++ drop k xs) e in
       λ i. (told i, list i)

@@ -48,11 +48,11 @@ use Rattle.group.proofs.Group.Laws as Group″
 use Rattle.writing.proofs.Push as Push′
 use Rattle.writing.proofs.Push.Laws as Push″
 use Rattle.push_list.specs.declared.Plan.{Plan}
-use Rattle.push_list.specs.Calls.{filled}
-use Rattle.push_list.specs.Steps.{toldPlan, planOf}
+use Rattle.push_list.specs.Calls.{writeIntoOf, carriedOf, filled}
+use Rattle.push_list.specs.Steps.{toldPlan}
 use Rattle.push_list.proofs.Arrays.{items-are}
 use Rattle.push_list.proofs.FillCall.{Fill, calls-fill}
-use Rattle.push_list.proofs.Plans.{answerOf, filledBy, plan-answer, plan-list, plan-fits}
+use Rattle.push_list.proofs.Plans.{filledBy, plan-list, plan-fits}
 use Rattle.push_list.proofs.Pushes.{R, Pushes, all-typed}
 use Rattle.push_list.proofs.Walking.{local, local-field, args2, args3, sets, lands-in, free-cell, has, Callee, calls-value}
 use Rattle.push_list.proofs.Plan as Plan′
@@ -123,16 +123,16 @@ module _ {M : Type 1} (𝓤 : URA M) (H : Heap 𝓤) (A : Atoms 𝓤) (W : Given
       has ! Group′.the-type Group″.the-plain g u is-group $ fjoin ! $ move ! (1 ∷ 0 ∷ []) $ join ! $ done !
 
   -- the pushes have room
-  within : (r : Plan) → toldPlan r ≡ planOf g t (length ys) → (r .answer .count ≤ 11) × (r .answer .count ≤ length ys)
+  within : (r : Plan) → toldPlan r ≡ writeIntoOf g t (length ys) → (r .answer .count ≤ 11) × (r .answer .count ≤ length ys)
   within r e = rw (ap (λ (p : Told Program). p .value .count) e) (plan-fits g t (length ys))
 
-  exits : (r : Plan) (zs : List Push) → toldPlan r ≡ planOf g t (length ys) → zs ≡ filled (r .answer .count) (r .pushes) ys → length zs ≡ length ys
+  exits : (r : Plan) (zs : List Push) → toldPlan r ≡ writeIntoOf g t (length ys) → zs ≡ filled (r .answer .count) (r .pushes) ys → length zs ≡ length ys
       → Is Answer′.the-row (r .answer) (LL.vals Answer′.the-type Answer″.the-laws (r .answer))
       → ent 𝓤 (sep 𝓤 (sep 𝓤 (A .lft κ q) (sem 𝓤 H A ftrue)) (sem 𝓤 H A (finally R γ zs))) (Post (LL.val Answer′.the-type Answer″.the-laws (r .answer)))
   exits r zs e z l is =
       qed W ((‵ (flft κ q) ⊛ ‵ ftrue) ∷ ‵ (finally R γ zs) ∷ []) ∵
       suffices ! _ (ends-at 𝓤 H A f.ended stayed (f.clauses 𝓤 H A mem run) W (((κ, tt), (q, tt), tt, a, vals), tt) _ (r .answer) (tt, (tt, (zs, tt))) (tt, (tt, (l, tt)))) $
-      says ! (ap answerOf e ∙ plan-answer g t (length ys), z ∙ ap (λ (p : Told Program). filledBy p ys) e ∙ plan-list g t ys) $ frame ! $
+      says ! (ap carriedOf e, z ∙ ap (λ (p : Told Program). filledBy p ys) e ∙ plan-list g t ys) $ frame ! $
       nothing ! $ move ! (1 ∷ 0 ∷ []) $ fjoin ! $ nothing ! $ fjoin ! $ nothing ! $ fjoin ! $
       has ! Answer′.the-type Answer″.the-plain (r .answer) _ is $ move ! (1 ∷ 0 ∷ []) $ done !
 
@@ -151,7 +151,7 @@ module _ {M : Type 1} (𝓤 : URA M) (H : Heap 𝓤) (A : Atoms 𝓤) (W : Given
         move ! (23 ∷ []) $ fsplit ! $ drop ! $ fsplit ! $ drop ! $ fsplit ! $ move ! (1 ∷ []) $ drop ! $ move ! (23 ∷ 0 ∷ []) $
         -- [the token; what list owns; _10; …; _9; …; _8; …; _7; …; _6; …; _5; …; _4; …; _3; …; _2; …; _1; …; room for _0; …]
         sets ! 8 refl (of-opd ! (local-field ! 16 refl (sub ! 1 refl (whole !)))) (tt, record { fits = room }) $
-        calls-value ! fm decide.ended (decide.clauses 𝓤 H A mem run) known-decide to-decide asks-decide (λ r. toldPlan r ≡ planOf g t (length ys)) (λ r e. id⊢ 𝓤 _)
+        calls-value ! fm decide.ended (decide.clauses 𝓤 H A mem run) known-decide to-decide asks-decide (λ r. toldPlan r ≡ writeIntoOf g t (length ys)) (λ r e. id⊢ 𝓤 _)
         (args3 ! (local ! 21 refl) (local ! 19 refl) (local ! 9 refl)) (λ r w e is.
         lands-in ! 14 refl (LL.lawful Plan′.the-type Plan″.the-laws 𝓤 H A W .typed r _ is .0) $
         -- the plan's machine value is written out, and its fields are read
