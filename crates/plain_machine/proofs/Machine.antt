@@ -1,7 +1,7 @@
 -- The seven calls as one answer each: its checks, what it carries where all of them hold, when worn is given, and that the pulses that an
 -- answer carries are the sum of the rises.
 -- Assumes nothing.
-use Prim.Native.Nat.{ℕ, zero, suc, _-_}
+use Prim.Native.Nat.{ℕ, zero, suc, _-_, _≤_, zero-le}
 use mathlib.Core.Path.{_≡_, refl, sym, ap, _∙_}
 use mathlib.Core.Bool.{Bool, true, false, false≢true, cond}
 use mathlib.Core.List.{List, [], _∷_, _++_}
@@ -32,7 +32,7 @@ use Rattle.group.proofs.Levels.{at-most-refl, at-most-true, rises-down, leaked-
 use Rattle.writing.proofs.Orders.{order-shows}
 use Rattle.group.proofs.Checks.{checked-size}
 use Rattle.group.proofs.Groups.{IsGroup, leak-group, wear-group, erase-group}
-use Rattle.writing.proofs.Writes.{push-held, group-pushed, write-group}
+use Rattle.writing.proofs.Writes.{push-held, pushes-few, group-pushed, write-group}
 use Rattle.push_list.specs.Calls.{intoChecks, writeIntoOf}
 use Rattle.push_list.proofs.Written.{into-group}
 use Rattle.sensing.proofs.Sensed.{sensed-order}
@@ -183,6 +183,24 @@ target-order g o (Leak c d) w e = absurd (false≢true w)
 target-order g o (Wear c cap) w e = absurd (false≢true w)
 target-order g o Erase w e = absurd (false≢true w)
 target-order g o Read w e = absurd (false≢true w)
+
+-- at most n - 1 pushes
+accept-few : (g : Group) (o : Order) (k : Kind) → numberOf (earlierBy g o k) ≡ 0 → acceptBy g o k .count ≤ g .n - 1
+unfolding pushed
+accept-few g o Write e = pushes-few g _ (target-order g o Write refl e)
+accept-few g o (WriteInto room) e = pushes-few g _ (target-order g o (WriteInto room) refl e)
+accept-few g o (Store s) e = pushes-few g _ (target-order g o (Store s) refl e)
+accept-few g o Scrub e = pushes-few g _ (target-order g o Scrub refl e)
+accept-few g o (Leak c d) e = zero-le
+accept-few g o (Wear c cap) e = zero-le
+accept-few g o Erase e = zero-le
+accept-few g o Read e = zero-le
+
+pub apply-few : (g : Group) (c : Call) → applyOf g c .value .count ≤ g .n - 1
+apply-few g c =
+    rw (apply-value g c)
+    (by-number (λ (s : Step). s .count ≤ g .n - 1) (numberOf (checks g c)) (accept g c) (quiet g)
+    (λ e. accept-few g (c .target) (c .kind) (all-held _ (earlierChecks g c) e .0)) zero-le)
 
 -- past the earlier checks, a write shows its target
 pub target-shows : (g : Group) (c : Call) → IsGroup g → writes (c .kind) ≡ true → numberOf (earlierChecks g c) ≡ 0

@@ -20,7 +20,7 @@ use Rattle.writing.specs.declared.Push.{Push}
 use Rattle.group.specs.Record.{groupChecks}
 use Rattle.writing.specs.Calls.{Program, pushed, writeOf}
 use Rattle.group.proofs.Checks.{checked-size}
-use Rattle.writing.proofs.Raising.{few-pushes}
+use Rattle.writing.proofs.Writes.{pushes-few}
 use Rattle.push_list.specs.Calls.{intoChecks, writeIntoOf, filled, listAfter}
 
 -- a number is 0, or another
@@ -45,12 +45,6 @@ module _ (g : Group) (o : Order) where
   unfolding writeIntoOf listAfter answer
   plan-list list = either (numberOf (intoChecks g o (length list))) (λ e. rw e) (λ k e. rw e)
 
-  -- an order of n cells takes at most n - 1 pushes
-  program-short : isOrderOf (g .n) o ≡ true → pushed g (listed o) .count ≤ g .n - 1
-  unfolding pushed
-  program-short e =
-      omega (arith, few-pushes 1 (g .levels) (listed o), length-take (o .len) (cellNumbers o), order-parts (g .n) o e .1 .long)
-
   pub plan-fits : (room : ℕ) → (writeIntoOf g o room .value .count ≤ 11) × (writeIntoOf g o room .value .count ≤ room)
   unfolding writeIntoOf answer
   plan-fits room =
@@ -59,7 +53,7 @@ module _ (g : Group) (o : Order) where
       let t = all-held _ (groupChecks g) e in
       let r = check-held _ _ _ (t .1) in
       let enough : g .n - 1 ≤ room = leb-true _ _ (r .0) in
-      let short = program-short (check-held _ _ _ (r .1) .0) in
+      let short = pushes-few g (listed o) (order-parts (g .n) o (check-held _ _ _ (r .1) .0) .1 .order) in
       rw e (omega (arith, short, checked-size g (t .0)), omega (arith, short, enough)))
       (λ k e. rw e (zero-le, zero-le))
 

@@ -1,16 +1,16 @@
 -- Wrong machines that demand 3 shuts out. Each is caught on a group of three cells, just opened, by the order [1, 2, 3]: the plain machine
 -- goes to levels 2, 1, 0 for 3 pulses, and that course is one of the rivals of every machine that accepts that write.
 -- Assumes nothing.
-use Prim.Native.Nat.{ℕ, _+_, _<_}
+use Prim.Native.Nat.{ℕ, suc, _+_, _<_}
 use mathlib.Core.Path.{_≡_, refl}
 use mathlib.Core.Bool.{cond, _&&_}
 use mathlib.Core.List.{List, [], _∷_}
 use native.Mathlib.Omega.{arith}
-use lib.Dec.{lit<, lit≤, leb}
+use lib.Dec.{lit<, lit≤, leb, ltb}
 use lib.ListN.{replicate}
 use Rattle.order.specs.declared.Order.{Order}
 use Rattle.order.specs.Refusals.{numberOf, Told, answer}
-use Rattle.order.specs.Cells.{eachOnce, isOrder, allZero, isListing}
+use Rattle.order.specs.Cells.{tabulate, eachOnce, isOrder, allZero, isListing}
 use Rattle.order.specs.Order.{cellNumbers, isOrderOf, orderRecord}
 use Rattle.group.specs.Levels.{level, put, AtMost, atMost, rises}
 use Rattle.writing.specs.PushUp.{singles, top, floorOver, Reach, Shows, lift, raise}
@@ -19,7 +19,8 @@ use Rattle.group.specs.Record.{allAtMost, isRow, opened, withLevels}
 use Rattle.writing.specs.Calls.{raised, fits, pushed, writeOf}
 use Rattle.group.specs.Calls.{wearOf}
 use Rattle.group.proofs.Levels.{at-most-true, at-most-level}
-use Rattle.plain_machine.specs.declared.Kind.the-variants.{Write, Wear}
+use Rattle.plain_machine.specs.declared.Kind.{Kind}
+use Rattle.plain_machine.specs.declared.Kind.the-variants.{Write, WriteInto, Store, Scrub, Leak, Wear, Erase, Read}
 use Rattle.plain_machine.specs.declared.Call.{Call}
 use Rattle.engine.specs.Scrub.{Step, quiet}
 use Rattle.plain_machine.specs.Machine.{writes, target, applyOf}
@@ -125,6 +126,61 @@ silent g c = altered (λ ls. ls) (λ k. 0) (applyOf g c)
 pub silent-refuted : ¬ (Demand3 silent start (call ∷ []))
 unfolding silent own latest entrant pulsesOf rises
 silent-refuted d = let e = rw (plain-answer .1) at (d .exact) in omega arith
+
+-- one that pushes to the top (SD 002): going up the target, a cell that is not above the one below it is raised to one more than the highest
+-- level of all cells. From levels 2, 1, 0 it shows [1, 3, 2] by 4, 1, 3, where 3, 1, 2 will do
+pub toTheTop : List ℕ → List ℕ → List ℕ
+toTheTop [] ls = ls
+toTheTop (c ∷ []) ls = ls
+toTheTop (c ∷ d ∷ cs) ls =
+    let new = toTheTop (d ∷ cs) ls in
+    cond (ltb (level new d) (level new c)) new (put new c (top (tabulate 12 suc) new + 1))
+
+pub climber : Machine
+climber g c =
+    let new = cond (writes (c .kind)) (toTheTop (target g c) (g .levels)) (applyOf g c .value .group .levels) in
+    altered (λ ls. new) (λ k. rises (g .levels) new) (applyOf g c)
+
+abbrev pub second-call : Call
+second-call = record { kind = Write; target = orderRecord (1 ∷ 3 ∷ 2 ∷ []) }
+
+abbrev second-course : Rival
+second-course = record { levels = 3 ∷ 1 ∷ 2 ∷ replicate 9 0; caps = start .caps; pulses = 6 }
+
+pub climber-refuted : ¬ (Demand3 climber start (call ∷ second-call ∷ []))
+unfolding climber toTheTop latest after plainAfter entrant Moves Follows applyOf writeOf answer pushed rises numberOf isRow allAtMost orderRecord cellNumbers isOrderOf isListing isOrder eachOnce allZero fits raised raise lift singles floorOver top level put atMost Shows Reach
+climber-refuted d =
+    let second : Raised (1 ∷ 3 ∷ 2 ∷ []) course second-course =
+    record {
+      no-lower = at-most-true _ _ refl;
+      shows = ((lit≤ tt, tt), ((lit≤ tt, tt), ((lit≤ tt, tt), tt)));
+      within = at-most-true _ _ refl;
+      same-caps = refl;
+      spent = refl;
+    } in
+    let high = at-most-level 1 (d .lowest (course ∷ second-course ∷ []) (next course-raised (next second rest))) in
+    omega arith
+
+-- one that takes a lent list of any room
+byValue : Kind → Kind
+byValue Write = Write
+byValue (WriteInto room) = Write
+byValue (Store s) = Store s
+byValue Scrub = Scrub
+byValue (Leak c d) = Leak c d
+byValue (Wear c cap) = Wear c cap
+byValue Erase = Erase
+byValue Read = Read
+
+pub crammer : Machine
+crammer g c = applyOf g (record { kind = byValue (c .kind); target = c .target })
+
+abbrev pub short-call : Call
+short-call = record { kind = WriteInto 1; target = order }
+
+pub crammer-refuted : ¬ (Demand3 crammer start [])
+unfolding crammer byValue after numberOf isRow allAtMost
+crammer-refuted d = let e : _≡_ {A = ℕ} 10 0 = d .accepted short-call .0 (plain-answer .0) in omega arith
 
 -- one that says worn before it reckons the new levels: where cell 1 stands at its cap. After the write, with cell 1 worn to its level, the
 -- same write raises nothing

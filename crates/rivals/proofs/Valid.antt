@@ -1,5 +1,6 @@
 -- Demand 3 speaks of something: from an opened group no list of calls meets the numbers 1 and 2; for every n from 3 to 12 a first write is
--- done, whatever its order, and a first store, whatever its symbol (there is one: `some-symbol`), and a scrub that comes next; and worn is given too.
+-- done, whatever its order (into a lent list where that has n - 1 places, and is refused 10 where it has fewer), and a first store, whatever its
+-- symbol (there is one: `some-symbol`), and a scrub that comes next; and worn is given too.
 -- Assumes nothing.
 use Prim.Native.Nat.{ℕ, zero, suc, _+_, _-_, _≤_, _<_}
 use mathlib.Core.Path.{_≡_, refl, ap, _∙_}
@@ -10,16 +11,16 @@ use native.Mathlib.Nat.{zero-mod}
 use native.Mathlib.Omega.{arith}
 use lib.Dec.{T, lit<, leb, ltb, le→leb}
 use lib.ListN.{length, getD, replicate, length-replicate}
-use borrow.Author.Tests.{lt-ltb, le-ltb}
+use borrow.Author.Tests.{lt-ltb, le-ltb, le-leb, lt-leb}
 use Rattle.code.specs.Calls.{wordOf}
 use Rattle.order.specs.declared.Order.{Order}
 use Rattle.order.specs.declared.Refusal.{Refusal}
-use Rattle.order.specs.declared.Refusal.the-variants.{Blank, Lost}
+use Rattle.order.specs.declared.Refusal.the-variants.{NoOrder, Blank, Lost, ListShort}
 use Rattle.order.specs.Refusals.{refusalNumber, numberOf, ifDone, answer, isSize}
 use Rattle.order.specs.Cells.{eachOnce, isOrder, allZero, isListing, tabulate, placeOf}
 use Rattle.order.specs.Order.{cellNumbers, listed, isOrderOf, orderRecord, noOrder}
 use Rattle.order.proofs.Cells.{order-true, order-range}
-use Rattle.order.proofs.Refusals.{all-hold, check-holds, later-decide, size-true}
+use Rattle.order.proofs.Refusals.{all-hold, check-holds, check-fails, later-decide, size-true}
 use Rattle.order.proofs.Check.{order-parts}
 use Rattle.order.proofs.Inverse.{own-place}
 use Rattle.order.proofs.Records.{record-order}
@@ -218,6 +219,9 @@ weight-zeros i (suc k) = omega (arith, weight-zeros (suc i) k)
 abbrev pub writing : Order → Call
 writing o = record { kind = Write; target = o }
 
+abbrev pub writing-into : Order → ℕ → Call
+writing-into o room = record { kind = WriteInto room; target = o }
+
 abbrev pub storing : ℕ → Call
 storing s = record { kind = Store s; target = noOrder }
 
@@ -233,6 +237,20 @@ module _ (n : ℕ) (size : isSize n ≡ true) where
   first-write o t =
       apply-number (opened n) (writing o)
       ∙ done-pushes (opened n) (writing o) refl (one-check _ _ t) (opened-passes n size (listed o) (order-parts n o t .1 .order))
+
+  -- into a lent list too, and 10 is given exactly where it has fewer than n - 1 places
+  pub first-into : (o : Order) → isOrderOf n o ≡ true → (room : ℕ) → n - 1 ≤ room → applyOf (opened n) (writing-into o room) .number ≡ 0
+  first-into o t room l =
+      apply-number (opened n) (writing-into o room)
+      ∙ done-pushes (opened n) (writing-into o room) refl
+      (later-decide _ (groupChecks (opened n)) (opened-group n size .passes) ∙ check-holds ListShort _ (le-leb (n - 1) room l) ∙ check-holds NoOrder [] t ∙ all-hold)
+      (opened-passes n size (listed o) (order-parts n o t .1 .order))
+
+  pub short-comes : (o : Order) (room : ℕ) → room < n - 1 → applyOf (opened n) (writing-into o room) .number ≡ 10
+  short-comes o room l =
+      apply-number (opened n) (writing-into o room)
+      ∙ later-decide _ (groupChecks (opened n)) (opened-group n size .passes)
+      ∙ check-fails ListShort _ (lt-leb (n - 1) room l)
 
   -- such an order is there: 1 to n
   pub some-order : isOrderOf n (orderRecord (orderFrom (λ i. 0) n)) ≡ true

@@ -1,6 +1,6 @@
 -- What a write knows of its group, its order and its levels, and what it leaves: a group stays a group.
 -- Assumes nothing.
-use Prim.Native.Nat.{ℕ, _≤_}
+use Prim.Native.Nat.{ℕ, _-_, _≤_}
 use mathlib.Core.Path.{_≡_, ap, _∙_}
 use mathlib.Core.Bool.{true}
 use mathlib.Core.List.{[], List}
@@ -10,6 +10,7 @@ use Rattle.order.specs.declared.Refusal.the-variants.{NoOrder, Worn}
 use Rattle.order.specs.Refusals.{numberOf}
 use Rattle.order.specs.Cells.{isOrder}
 use Rattle.order.specs.Order.{listed, isOrderOf}
+use Rattle.order.proofs.Cells.{order-true}
 use Rattle.order.proofs.Refusals.{all-held, check-held, check-holds, all-hold}
 use Rattle.order.proofs.Check.{order-parts}
 use Rattle.group.specs.declared.Group.{Group}
@@ -22,6 +23,7 @@ use Rattle.group.proofs.Groups.{IsGroup, told-value, told-accepted, group-with}
 use Rattle.writing.specs.PushUp.{singles, Shows}
 use Rattle.writing.specs.Calls.{Program, raised, fits, pushChecks, pushed, unpushed, writeChecks, writeOf}
 use Rattle.writing.proofs.Raise.{raise-least}
+use Rattle.writing.proofs.Raising.{few-pushes}
 
 -- an order that is handed in for a group, and the group's levels, can be raised
 pub checked-target : (g : Group) (o : Order) → numberOf (groupChecks g) ≡ 0 → isOrderOf (g .n) o ≡ true
@@ -31,6 +33,11 @@ checked-target g o d e =
     (ap (λ (k : ℕ). isOrder k (listed o)) (t .long) ∙ t .order, omega (arith, checked-size g d), row-true 4095 (g .n) (g .levels) (checked-levels g d))
 
 -- ---- a write
+
+-- an order of n cells takes at most n - 1 pushes
+pub pushes-few : (g : Group) (xs : List ℕ) → isOrder (g .n) xs ≡ true → pushed g xs .count ≤ g .n - 1
+unfolding pushed
+pushes-few g xs t = omega (arith, few-pushes 1 (g .levels) xs, order-true (g .n) xs t .size)
 
 -- the last checks of a call that raises cells hold exactly when no new level is above its cap
 pub push-held : (g : Group) (xs : List ℕ) → numberOf (pushChecks g xs) ≡ 0 → fits g xs ≡ true
