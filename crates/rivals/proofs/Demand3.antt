@@ -227,6 +227,3 @@ unfolding openOf
 opened-group n e =
     let told = told-done ((isSize n, Size) ∷ []) (opened n) noGroup (check-holds Size [] e ∙ all-hold) in
     rw (sym (ap (λ (t : Told Group). t .value) told)) at (open-group n (sym (ap (λ (t : Told Group). t .number) told)))
-
-pub demand3-opened : (n : ℕ) → isSize n ≡ true → (cs : List Call) → Demand3 applyOf (opened n) cs
-demand3-opened n e cs = demand3 (opened n) (opened-group n e) cs
