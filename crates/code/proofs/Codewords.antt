@@ -1,33 +1,32 @@
 -- Codewords as orders: the word of a number is the coordinates of an order, that order is a codeword, and a codeword's coordinates are a word.
 -- Assumes nothing.
-use Prim.Native.Nat.{ℕ, zero, suc, _+_, _-_, _%_, _≤_, _<_}
+use Prim.Native.Nat.{ℕ, zero, suc, _+_, _-_, _≤_, _<_}
 use native.Mathlib.Nat.{not-suc-le-zero, le-of-suc-le-suc, add-zero}
 use native.Mathlib.Omega.{arith}
 use mathlib.Core.Path.{_≡_, refl, sym, ap, _∙_, subst}
 use mathlib.Core.Bool.{true}
 use mathlib.Core.Logic.{⊎-elim}
 use mathlib.Core.List.{List, [], _∷_, _++_}
-use lib.Dec.{T, leb, leb→le, le→leb, eqb}
-use lib.ListN.{length, getD, take, replicate, List·getD-eq-default}
+use lib.Dec.{T, leb, leb→le, le→leb, ltb}
+use lib.ListN.{length, getD, replicate, List·getD-eq-default}
 use lib.Seq.{ext-getD}
-use borrow.Author.Tests.{le-leb, lt-leb}
-use Rattle.order.specs.declared.Order.{Order}
+use borrow.Author.Tests.{le-leb, lt-leb, lt-ltb}
 use Rattle.order.specs.Cells.{isOrder, tabulate}
 use Rattle.order.specs.Refusals as refusals
-use Rattle.order.specs.Order.{listed, orderRecord}
+use Rattle.order.specs.Order.{orderRecord}
 use Rattle.order.proofs.Cells.{lt-cases}
 use Rattle.order.proofs.Tabulate.{length-tabulate, getD-tabulate}
-use Rattle.order.proofs.Refusals.{sized-holds}
+use Rattle.order.proofs.Refusals.{told-done, sized-holds}
 use Rattle.coordinates.specs.Coordinates.{coordinateOf, coordinatesTo, orderFrom, inRange}
-use Rattle.coordinates.specs.Calls.{coordinatesOf, coordinateAt, orderByCoordinates, coordinateChecks}
+use Rattle.coordinates.specs.Calls.{coordinateAt, orderByCoordinates, coordinateChecks, orderOfCoordinates}
 use Rattle.coordinates.proofs.Range.{all-in-range}
 use Rattle.coordinates.proofs.RoundTrip.{order-ext, coordinate-back, coordinates-low, order-of-coordinates, order-of-any}
-use Rattle.code.specs.Words.{modulus, weight, leaves, K, wordAt, wordNumber}
-use Rattle.code.specs.Decoding.{isCodeword}
-use Rattle.code.specs.Steps.{held, ranged, isWord, syndromeOf}
+use Rattle.decoder.specs.Decoding.{modulus, leaves, isCodeword}
+use Rattle.code.specs.Words.{K, wordAt, wordNumber}
+use Rattle.code.specs.Calls.{wordOf, codewordOf}
+use Rattle.code.specs.Steps.{held, ranged, isWord}
 use Rattle.code.proofs.Tests.{is-true, and-left, and-right, and-both}
 use Rattle.code.proofs.Laws.{word-of, of-word, word-is-word, number-of-word, word-of-number}
-use Rattle.code.proofs.Scanning.{cut}
 
 -- ---- ranges
 
@@ -68,11 +67,11 @@ module _ (x : List ℕ) (t : T (ranged 1 x)) where
       (lt-cases k (length x))))
 
   -- the record of a word passes the checks of coordinates
-  pub held-passes : 3 ≤ length x + 1 → length x + 1 ≤ 12 → refusals.numberOf (coordinateChecks (held x)) ≡ 0
+  held-passes : 3 ≤ length x + 1 → length x + 1 ≤ 12 → refusals.numberOf (coordinateChecks (held x)) ≡ 0
   held-passes low high = sized-holds (length x + 1) _ _ low high held-in-range
 
 -- and its order is that of the word
-pub held-order : (x : List ℕ) → orderByCoordinates (held x) ≡ orderRecord (orderFrom (coordinateAt x) (length x + 1))
+held-order : (x : List ℕ) → orderByCoordinates (held x) ≡ orderRecord (orderFrom (coordinateAt x) (length x + 1))
 unfolding orderByCoordinates
 held-order x = ap orderRecord (order-ext (length x + 1) _ _ same)
   where
@@ -145,28 +144,13 @@ module _ (n : ℕ) (pos : 0 < n) (u : List ℕ) (o : isOrder n u ≡ true) where
       rw (word-of-number n pos (coordinatesTo (n - 1) u) (codeword-word c))
       (order-ext n _ _ coordinate-held ∙ order-of-coordinates n u o)
 
--- ---- the record of an order's coordinates
+-- ---- the order of the record of a number's word
 
-take-tabulate : (m k : ℕ) (f : ℕ → ℕ) → m ≤ k → take m (tabulate k f) ≡ tabulate m f
-take-tabulate zero k f l = refl
-take-tabulate (suc m) zero f l = absurd (not-suc-le-zero l)
-take-tabulate (suc m) (suc k) f l = ap (λ (t : List ℕ). f 0 ∷ t) (take-tabulate m k (λ j. f (suc j)) (le-of-suc-le-suc l))
-
-module _ (o : Order) (low : 1 ≤ o .len) (high : o .len ≤ 12) where
-  pub cut-coordinates : take (coordinatesOf o .len) (coordinatesOf o .values) ≡ coordinatesTo (o .len - 1) (listed o)
-  unfolding coordinatesOf coordinatesTo
-  cut-coordinates = take-tabulate (o .len - 1) 11 (λ k. coordinateOf (listed o) (suc k)) (omega arith)
-
-  -- the number of cells
-  pub cells-of : coordinatesOf o .len + 1 ≡ o .len
-  unfolding coordinatesOf
-  cells-of = omega arith
-
-  pub syndrome-of : weight 1 (cut (coordinatesOf o)) % modulus (coordinatesOf o .len + 1) ≡ syndromeOf (o .len) (listed o)
-  unfolding syndromeOf
-  syndrome-of = rw (cut-coordinates, cells-of)
-
--- an order is a codeword where its syndrome is 0
-pub code-syndrome : (n : ℕ) (u : List ℕ) → isCodeword n u ≡ eqb (syndromeOf n u) 0
-unfolding isCodeword leaves syndromeOf
-code-syndrome n u = refl
+pub codeword-answer : (n s : ℕ) → 3 ≤ n → n ≤ 12 → s < K n → orderOfCoordinates (held (wordAt n s)) ≡ codewordOf n s
+unfolding orderOfCoordinates codewordOf wordOf
+codeword-answer n s low high h =
+    let t = word-of n (wordAt n s) (word-is-word n (omega arith) s h) in
+    let cells : length (wordAt n s) + 1 ≡ n = omega arith in
+    let same = rw cells at (held-order (wordAt n s)) in
+    sym (told-done _ _ _ (held-passes (wordAt n s) (t .range) (omega arith) (omega arith)))
+    ∙ rw same (told-done _ _ _ (sized-holds n (ltb s (K n)) _ low high (lt-ltb s (K n) h)))

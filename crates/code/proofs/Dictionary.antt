@@ -8,7 +8,8 @@ use mathlib.Core.Path.{_≡_, ap, _∙_}
 use mathlib.Core.Logic.{_⊎_, inl, inr}
 use mathlib.Core.List.{List, [], _∷_}
 use lib.ListN.{getD}
-use Rattle.code.specs.Words.{Earlier, here, later, modulus, K, wordAt, words, vectors}
+use Rattle.decoder.specs.Decoding.{modulus}
+use Rattle.code.specs.Words.{Earlier, here, later, K, wordAt, words, vectors}
 use Rattle.code.specs.Tails.{tails, tailsFrom, owed, nothing}
 use Rattle.code.proofs.Lists.{sum-term}
 use Rattle.code.proofs.Numbering.{wordsFrom, below, owed-lt, word-suc, pick}

@@ -8,8 +8,9 @@ use native.Mathlib.Omega.{arith}
 use lib.ListN.{length, drop, replicate, set}
 use lib.Seq.{sets, sets-eq}
 use Rattle.coordinates.specs.declared.Coordinates.{Coordinates}
+use Rattle.decoder.specs.Decoding.{modulus}
 use Rattle.code.specs.declared.Choice.{Choice}
-use Rattle.code.specs.Words.{modulus, K, wordAt, words, vectors}
+use Rattle.code.specs.Words.{K, wordAt, words, vectors}
 use Rattle.code.specs.Tails.{tails}
 use Rattle.code.specs.Steps.{held, Choosing, Chosen}
 use Rattle.code.proofs.Numbering.{wordsFrom, owed-lt, word-right}

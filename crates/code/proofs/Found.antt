@@ -17,12 +17,13 @@ use Rattle.order.specs.Refusals.{numberOf, Told}
 use Rattle.order.specs.Order.{listed, orderChecks}
 use Rattle.order.proofs.Records.{passed, passed-listed}
 use Rattle.distance.specs.Distance.{exchange}
+use Rattle.decoder.specs.Decoding.{isCodeword, correction, Nearby}
 use Rattle.code.specs.declared.Verdict.{Verdict}
 use Rattle.code.specs.declared.Verdict.the-variants.{Clean}
-use Rattle.code.specs.Decoding.{isCodeword, correction, symbolOf, Nearby}
+use Rattle.code.specs.Words.{symbolOf}
 use Rattle.code.specs.Calls.{Reading, verdictAt, decodeOf}
 use Rattle.order.proofs.Cells.{lt-cases}
-use Rattle.code.proofs.Decoding.{reads, reads-clean}
+use Rattle.decoder.proofs.Decoding.{reads, reads-clean}
 use Rattle.code.proofs.Reading.{decode-lost, decode-found}
 
 module _ (o : Order) (d : numberOf (orderChecks o) ≡ 0) where

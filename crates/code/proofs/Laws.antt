@@ -9,7 +9,8 @@ use lib.Dec.{T, eqb}
 use lib.ListN.{length, getD}
 use borrow.Author.Tests.{eqb-true, eq-eqb}
 use Rattle.order.proofs.Cells.{both}
-use Rattle.code.specs.Words.{modulus, select, leaves, vectorsFrom, vectors, words, K, wordAt, wordNumber}
+use Rattle.decoder.specs.Decoding.{modulus, leaves}
+use Rattle.code.specs.Words.{select, vectorsFrom, vectors, words, K, wordAt, wordNumber}
 use Rattle.code.specs.Tails.{tails, Entry, Block}
 use Rattle.code.specs.Steps.{ranged, isWord}
 use Rattle.code.proofs.Tests.{is-true}

@@ -7,17 +7,9 @@ pub mod Laws
 pub mod Dictionary
 pub mod Steps
 pub mod Filling
-pub mod Scanning
 pub mod Summing
 pub mod Codewords
-pub mod Answers
 pub mod Bench
-pub mod First
-pub mod Weight
-pub mod Decoding
-pub mod Stores
-pub mod Neighbours
-pub mod Looking
 pub mod Reading
 pub mod Told
 pub mod Row

@@ -9,7 +9,8 @@ use native.Mathlib.Omega.{arith}
 use lib.Dec.{T, leb, leb→le, le→leb, eqb→eq}
 use lib.ListN.{length, getD, length-map}
 use borrow.Author.Tests.{ne-eqb}
-use Rattle.code.specs.Words.{joined, select, weight, leaves, vectorsFrom, same, indexOf}
+use Rattle.decoder.specs.Decoding.{weight, leaves}
+use Rattle.code.specs.Words.{joined, select, vectorsFrom, same, indexOf}
 use Rattle.code.specs.Tails.{sumBelow, owed, nothing, tailsFrom}
 use Rattle.code.specs.Steps.{ranged}
 use Rattle.code.proofs.Tests.{and-left, and-right, and-both}

@@ -3,12 +3,8 @@
 use Prim.Native.Nat.{ℕ}
 use mathlib.Core.Path.{_≡_, refl}
 use mathlib.Core.Bool.{true}
-use Rattle.order.specs.declared.Order.{Order}
 use Rattle.order.specs.Refusals.{checkRow, inRow}
-use Rattle.code.specs.Calls.{codewordChecks, decodeChecks}
+use Rattle.code.specs.Calls.{codewordChecks}
 
 pub codeword-in-row : (n symbol : ℕ) → inRow (codewordChecks n symbol) checkRow ≡ true
 codeword-in-row n symbol = refl
-
-pub decode-in-row : (o : Order) → inRow (decodeChecks o) checkRow ≡ true
-decode-in-row o = refl

@@ -11,8 +11,8 @@ use lib.ListN.{length, getD}
 use borrow.Author.Tests.{lt-ltb, le-ltb}
 use Rattle.order.specs.Refusals.{isSize}
 use Rattle.order.proofs.Refusals.{size-true}
+use Rattle.decoder.specs.Decoding.{modulus}
 use Rattle.code.specs.declared.table.Table.{Table}
-use Rattle.code.specs.Words.{modulus}
 use Rattle.code.specs.Tails.{sumBelow, owed, nothing, tailsFrom, tails, Entry, Block}
 use Rattle.code.specs.Table.{all, entry, due, blockRight, blocks, tableRight}
 use Rattle.code.proofs.Tests.{and-left, and-right, all-at}

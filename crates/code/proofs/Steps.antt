@@ -8,7 +8,8 @@ use native.Mathlib.Nat.{eq-or-lt-of-le}
 use native.Mathlib.Numerals.{add-one}
 use native.Mathlib.Omega.{arith}
 use lib.ListN.{getD}
-use Rattle.code.specs.Words.{modulus, indexOf}
+use Rattle.decoder.specs.Decoding.{modulus}
+use Rattle.code.specs.Words.{indexOf}
 use Rattle.code.specs.Tails.{sumBelow, owed, tailsFrom, tails, having, before}
 use Rattle.code.specs.Steps.{Choosing}
 use Rattle.code.proofs.Lists.{sum-term}

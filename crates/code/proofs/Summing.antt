@@ -12,14 +12,15 @@ use lib.ListN.{length, length-drop}
 use Rattle.order.specs.Refusals.{isSize}
 use Rattle.order.proofs.Refusals.{size-true}
 use Rattle.coordinates.specs.declared.Coordinates.{Coordinates}
-use Rattle.code.specs.Words.{modulus, leaves, words, vectors, wordNumber}
+use Rattle.decoder.specs.Decoding.{modulus, leaves}
+use Rattle.decoder.proofs.Scanning.{Sized, cut, at, from, from-cons, from-end, length-cut}
+use Rattle.code.specs.Words.{words, vectors, wordNumber}
 use Rattle.code.specs.Tails.{tails, owed, before}
 use Rattle.code.specs.Steps.{ranged, isWord, Choosing}
 use Rattle.code.proofs.Rule.{tails-fit}
 use Rattle.code.proofs.Numbering.{wordsFrom, owed-lt, tail-word, found, number-zero}
 use Rattle.code.proofs.Laws.{K-entry, word-of, number-below}
 use Rattle.code.proofs.Steps.{numberFrom, number-step}
-use Rattle.code.proofs.Scanning.{Sized, cut, at, from, from-cons, from-end, length-cut}
 
 -- the cells of which these are the coordinates
 abbrev pub cells : Coordinates → ℕ

@@ -9,12 +9,11 @@ use Rattle.order.specs.Order.{orderRecord}
 use Rattle.coordinates.specs.Coordinates.{orderFrom}
 use Rattle.coordinates.specs.Calls.{coordinateAt}
 use Rattle.distance.specs.Distance.{exchange}
-use Rattle.code.specs.Words.{K, wordAt}
-use Rattle.code.specs.Decoding.{symbolOf}
+use Rattle.code.specs.Words.{K, wordAt, symbolOf}
 use Rattle.code.specs.Calls.{verdictAt, decodeOf}
 use Rattle.code.proofs.Codewords.{symbol-order, symbol-codeword, symbol-back}
 use Rattle.order.proofs.Records.{recorded-length, recorded-list, recorded-passes}
-use Rattle.code.proofs.Decoding.{exchange-order, reads-exchange}
+use Rattle.decoder.proofs.Decoding.{exchange-order, reads-exchange}
 use Rattle.code.proofs.Reading.{decode-found}
 
 module _ (n s : ℕ) (low : 3 ≤ n) (high : n ≤ 12) (h : s < K n) where

@@ -2,19 +2,16 @@
 -- Assumes nothing.
 use Prim.Native.Nat.{ℕ}
 use mathlib.Core.Path.{_≡_, sym, ap}
-use mathlib.Core.Bool.{Bool}
 use mathlib.Core.Option.{Option, some}
 use Rattle.order.specs.Refusals.{Told}
 use Rattle.order.proofs.Refusals.{refusal-by-number, not-zero}
 use Rattle.code.specs.declared.Verdict.{Verdict}
 use Rattle.code.specs.declared.WordsAnswer.{WordsAnswer}
 use Rattle.code.specs.declared.WordsAnswer.the-variants as words
-use Rattle.code.specs.declared.TestAnswer.{TestAnswer}
-use Rattle.code.specs.declared.TestAnswer.the-variants as test
 use Rattle.code.specs.declared.DecodeAnswer.{DecodeAnswer}
 use Rattle.code.specs.declared.DecodeAnswer.the-variants as decode
 use Rattle.code.specs.declared.CorrectedAnswer.{CorrectedAnswer}
-use Rattle.code.specs.Calls.{Reading, WordRead, toldWords, toldTest, toldDecode, toldCorrected}
+use Rattle.code.specs.Calls.{Reading, WordRead, toldWords, toldDecode, toldCorrected}
 use Rattle.code.proofs.Reading.{readingTold}
 
 pub told-words : (a b : WordsAnswer) → toldWords a ≡ toldWords b → a ≡ b
@@ -22,12 +19,6 @@ told-words (words.Refused a) (words.Refused b) e = ap words.Refused (refusal-by-
 told-words (words.Refused a) (words.Words k) e = absurd (not-zero a (ap (λ (t : Told ℕ). t .number) e))
 told-words (words.Words k) (words.Refused b) e = absurd (not-zero b (sym (ap (λ (t : Told ℕ). t .number) e)))
 told-words (words.Words j) (words.Words k) e = ap words.Words (ap (λ (t : Told ℕ). t .value) e)
-
-pub told-test : (a b : TestAnswer) → toldTest a ≡ toldTest b → a ≡ b
-told-test (test.Refused a) (test.Refused b) e = ap test.Refused (refusal-by-number a b (ap (λ (t : Told Bool). t .number) e))
-told-test (test.Refused a) (test.Tested k) e = absurd (not-zero a (ap (λ (t : Told Bool). t .number) e))
-told-test (test.Tested k) (test.Refused b) e = absurd (not-zero b (sym (ap (λ (t : Told Bool). t .number) e)))
-told-test (test.Tested j) (test.Tested k) e = ap test.Tested (ap (λ (t : Told Bool). t .value) e)
 
 pub told-decode : (a b : DecodeAnswer) → toldDecode a ≡ toldDecode b → a ≡ b
 told-decode (decode.Refused a) (decode.Refused b) e = ap decode.Refused (refusal-by-number a b (ap (λ (t : Told Reading). t .number) e))

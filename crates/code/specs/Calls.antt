@@ -1,6 +1,6 @@
 -- What the calls of the one-error code answer.
 --
---   toldWords, toldTest        what an answer says: its number, and K(n), or yes or no
+--   toldWords                  what an answer says: its number, and K(n)
 --   wordOf n symbol            the codeword of a number, as an order
 --   Reading                    a symbol and a verdict; `noReading` beside a refusal: symbol 0, no verdict
 --   toldDecode                 what an answer says: its number, and the reading
@@ -8,33 +8,33 @@
 --   readingAt n u k            what u reads as where the exchange at place k is put right
 --   WordRead                   a reading, and the codeword found, as an order; the zeros beside a refusal
 --   toldCorrected              what an answer says: its number, the reading and the codeword
---   codewordChecks, decodeChecks                   the checks of these calls: 1, 5, and 1, 4, 7
---   wordsOf, codewordOf, isCodewordOf, decodeOf    the answers to `words`, `codeword`, `is_codeword` and `decode`
---   correctedOf                                    the answer to `corrected`: what `decode` answers, and the codeword found
-use mathlib.Core.Bool.{Bool, false}
-use mathlib.Core.List.{List, [], _∷_, _++_}
+--   codewordChecks             the checks of a symbol: 1, 5
+--   wordsOf, codewordOf        the answers to `words` and `codeword`
+--   decodeOf                   the answer to `decode`
+--   correctedOf                the answer to `corrected`: what `decode` answers, and the codeword found
+use mathlib.Core.Bool.{Bool}
+use mathlib.Core.List.{List, [], _∷_}
 use mathlib.Core.Option.{Option, none, some}
 use Prim.Native.Nat.{ℕ, zero, suc}
 use lib.Dec.{ltb}
 use Rattle.order.specs.declared.Order.{Order}
 use Rattle.order.specs.declared.Refusal.{Refusal}
-use Rattle.order.specs.declared.Refusal.the-variants.{Size, NoSymbol, Lost}
+use Rattle.order.specs.declared.Refusal.the-variants.{Size, NoSymbol}
 use Rattle.order.specs.Refusals.{refusalNumber, Told, answer, isSize}
-use Rattle.order.specs.Order.{listed, orderChecks, orderRecord, noOrder}
+use Rattle.order.specs.Order.{listed, orderRecord, noOrder}
 use Rattle.coordinates.specs.Coordinates.{orderFrom}
 use Rattle.coordinates.specs.Calls.{coordinateAt}
 use Rattle.distance.specs.Distance.{exchange}
+use Rattle.decoder.specs.Decoding.{correction}
+use Rattle.decoder.specs.Nearest.{decodeChecks}
 use Rattle.code.specs.declared.WordsAnswer.{WordsAnswer}
 use Rattle.code.specs.declared.WordsAnswer.the-variants as words
 use Rattle.code.specs.declared.Verdict.{Verdict}
 use Rattle.code.specs.declared.Verdict.the-variants.{Clean, PutRight}
-use Rattle.code.specs.declared.TestAnswer.{TestAnswer}
-use Rattle.code.specs.declared.TestAnswer.the-variants as test
 use Rattle.code.specs.declared.DecodeAnswer.{DecodeAnswer}
 use Rattle.code.specs.declared.DecodeAnswer.the-variants as decode
 use Rattle.code.specs.declared.CorrectedAnswer.{CorrectedAnswer}
-use Rattle.code.specs.Words.{K, wordAt}
-use Rattle.code.specs.Decoding.{isCodeword, correction, symbolOf}
+use Rattle.code.specs.Words.{K, wordAt, symbolOf}
 
 -- ---- the number of codewords
 
@@ -56,15 +56,6 @@ codewordChecks n symbol = (isSize n, Size) ∷ (ltb symbol (K n), NoSymbol) ∷ 
 unfoldable pub codewordOf : ℕ → ℕ → Told Order
 codewordOf n symbol = answer (codewordChecks n symbol) (orderRecord (wordOf n symbol)) noOrder
 
--- ---- the test
-
-abbrev pub toldTest : TestAnswer → Told Bool
-toldTest (test.Refused refusal) = record { number = refusalNumber refusal; value = false }
-toldTest (test.Tested b) = record { number = 0; value = b }
-
-unfoldable pub isCodewordOf : Order → Told Bool
-isCodewordOf o = answer (orderChecks o) (isCodeword (o .len) (listed o)) false
-
 -- ---- decoding
 
 pub record Reading : Type 0 where
@@ -84,9 +75,6 @@ readingAt n u k = record { symbol = symbolOf n (exchange k u); verdict = some (v
 abbrev pub toldDecode : DecodeAnswer → Told Reading
 toldDecode (decode.Refused refusal) = record { number = refusalNumber refusal; value = noReading }
 toldDecode (decode.Decoded symbol verdict) = record { number = 0; value = record { symbol = symbol; verdict = some verdict } }
-
-abbrev pub decodeChecks : Order → List (Bool × Refusal)
-decodeChecks o = orderChecks o ++ (ltb (correction (o .len) (listed o)) (o .len), Lost) ∷ []
 
 unfoldable pub decodeOf : Order → Told Reading
 decodeOf o = answer (decodeChecks o) (readingAt (o .len) (listed o) (correction (o .len) (listed o))) noReading

@@ -1,5 +1,4 @@
 pub mod Words
-pub mod Decoding
 pub mod Calls
 pub mod Tails
 pub mod Table

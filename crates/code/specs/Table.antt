@@ -13,7 +13,7 @@ use Prim.Native.Nat.{ℕ, zero, suc, _+_, _*_}
 use lib.Dec.{eqb, ltb}
 use lib.ListN.{length, getD}
 use Rattle.code.specs.declared.table.Table.{Table}
-use Rattle.code.specs.Words.{modulus}
+use Rattle.decoder.specs.Decoding.{modulus}
 use Rattle.code.specs.Tails.{sumBelow, owed, nothing}
 
 unfoldable pub all : (ℕ → Bool) → ℕ → Bool

@@ -5,21 +5,21 @@
 --   select test xs      the elements that pass the test, in their order
 --   same x y            the two lists of numbers are equal
 --   indexOf x ys        the place, from 0, at which a list first stands among others; their number where it does not
---   modulus n           the divisor 2n - 1
 --   vectorsFrom k i     all choices of k coordinates, the first of them coordinate i, in dictionary order: coordinate i runs from 0 to i
---   weight i x          the sum of each coordinate times its number, where the first is coordinate i
---   leaves m i r x      the weighted sum leaves r on division by m, where the first is coordinate i
 --   vectors n           the coordinates 1 to n - 1 of n cells, in dictionary order, coordinate 1 first
 --   words n             the codewords: the weighted sum is divisible by 2n - 1
 --   K n                 the number of codewords
 --   wordAt n s          the codeword of number s: codewords are numbered from 0 by their place
 --   wordNumber n x      the number of a codeword; K n of a list that is none
+--   symbolOf n u        the number of a codeword, as an order
 --   Earlier x y         x stands before y in a dictionary: it has less at the first place where they differ. For the law of the numbering
 use mathlib.Core.Bool.{Bool, true, false, cond, _&&_}
 use mathlib.Core.List.{List, [], _∷_, _++_, map}
-use Prim.Native.Nat.{ℕ, zero, suc, _+_, _-_, _*_, _%_, _<_}
+use Prim.Native.Nat.{ℕ, zero, suc, _-_, _<_}
 use lib.Dec.{eqb}
 use lib.ListN.{length, getD}
+use Rattle.coordinates.specs.Coordinates.{coordinatesTo}
+use Rattle.decoder.specs.Decoding.{modulus, leaves}
 
 module _ {ℓ} {A : Type ℓ} where
   unfoldable pub joined : (ℕ → List A) → ℕ → List A
@@ -40,19 +40,9 @@ unfoldable pub indexOf : List ℕ → List (List ℕ) → ℕ
 indexOf x [] = 0
 indexOf x (y ∷ ys) = cond (same x y) 0 (suc (indexOf x ys))
 
-abbrev pub modulus : ℕ → ℕ
-modulus n = 2 * n - 1
-
 unfoldable pub vectorsFrom : ℕ → ℕ → List (List ℕ)
 vectorsFrom zero i = [] ∷ []
 vectorsFrom (suc k) i = joined (λ v. map (λ x. v ∷ x) (vectorsFrom k (suc i))) (suc i)
-
-unfoldable pub weight : ℕ → List ℕ → ℕ
-weight i [] = 0
-weight i (v ∷ x) = i * v + weight (suc i) x
-
-unfoldable pub leaves : ℕ → ℕ → ℕ → List ℕ → Bool
-leaves m i r x = eqb (weight i x % m) r
 
 unfoldable pub vectors : ℕ → List (List ℕ)
 vectors n = vectorsFrom (n - 1) 1
@@ -68,6 +58,9 @@ wordAt n s = getD (words n) s []
 
 unfoldable pub wordNumber : ℕ → List ℕ → ℕ
 wordNumber n x = indexOf x (words n)
+
+unfoldable pub symbolOf : ℕ → List ℕ → ℕ
+symbolOf n u = wordNumber n (coordinatesTo (n - 1) u)
 
 pub data Earlier : List ℕ → List ℕ → Type 0 where
   here : {a b : ℕ} {x y : List ℕ} → a < b → Earlier (a ∷ x) (b ∷ y)

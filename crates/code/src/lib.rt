@@ -1,11 +1,10 @@
-// The one-error code (document 01, "The one-error code"; SD 003, construction 8, code C1): its codewords, their numbers, and the
-// decoder. Every public function takes any value and answers it by one equation with a definition of specs/. Proved besides:
-// number and word undo each other (proofs/Laws); at most one codeword is within distance 1 of an order (proofs/Decoding); `decode` finds
-// a codeword exactly when it is within distance 1, and says lost exactly when there is none (proofs/Found).
+// The one-error code (document 01, "The one-error code"; SD 003, construction 8, code C1): the numbers of its codewords, and what an order reads as. The
+// codeword itself is found by the crate `decoder`. Every public function takes any value and answers it by one equation with a definition
+// of specs/. Proved besides: number and word undo each other (proofs/Laws); `decode` finds a codeword exactly when it is within
+// distance 1, and says lost exactly when there is none (proofs/Found).
 mod table;
 
 use coordinates::Coordinates;
-use order::Cell;
 use order::Order;
 use order::OrderAnswer;
 use order::Outcome;
@@ -14,18 +13,17 @@ use order::Refusal;
 use table::Table;
 ghost use mathlib.Core.Path.{_≡_};
 ghost use mathlib.Core.Bool.{true};
-ghost use Prim.Native.Nat.{_+_, _%_, _≤_, _<_};
+ghost use Prim.Native.Nat.{_+_, _≤_, _<_};
 ghost use lib.Dec.{T};
 ghost use lib.ListN.{take};
-ghost use Rattle.order.specs.Refusals.{refusalNumber, isSize};
-ghost use Rattle.order.specs.Order.{listed, noOrder, toldOrder};
-ghost use Rattle.coordinates.specs.Calls.{coordinatesOf};
-ghost use Rattle.code.specs.Words.{modulus, weight, K, wordAt, wordNumber};
-ghost use Rattle.code.specs.Decoding.{correction};
-ghost use Rattle.code.specs.Calls.{toldWords, wordsOf, codewordOf, toldTest, isCodewordOf, noReading, toldDecode, decodeOf, toldCorrected, correctedOf};
+ghost use Rattle.order.specs.Refusals.{isSize};
+ghost use Rattle.order.specs.Order.{toldOrder};
+ghost use Rattle.decoder.specs.Decoding.{modulus};
+ghost use Rattle.code.specs.Words.{K, wordAt, wordNumber};
+ghost use Rattle.code.specs.Calls.{toldWords, wordsOf, codewordOf, verdictAt, toldDecode, decodeOf, toldCorrected, correctedOf};
 ghost use Rattle.code.specs.Tails.{tails, Entry, Block, owed, before};
 ghost use Rattle.code.specs.Table.{tableRight};
-ghost use Rattle.code.specs.Steps.{held, isWord, Choosing, Chosen, Misread, correctsBy, Exchangeable, exchangedOrder};
+ghost use Rattle.code.specs.Steps.{held, isWord, Choosing, Chosen};
 
 pub enum WordsAnswer {
     Refused(Refusal),
@@ -36,11 +34,6 @@ pub enum WordsAnswer {
 pub enum Verdict {
     Clean,
     PutRight(Rank),
-}
-
-pub enum TestAnswer {
-    Refused(Refusal),
-    Tested(bool),
 }
 
 pub enum DecodeAnswer {
@@ -229,33 +222,6 @@ fn tail_counts() -> Table
     table::COUNTS
 }
 
-// Whether an order is a codeword.
-pub fn is_codeword(o: Order) -> TestAnswer
-    ensures { λ r. ⌜ toldTest r ≡ isCodewordOf o ⌝ }
-{
-    let answer = coordinates::coordinates_of(o);
-    let outcome = answer.outcome;
-    if let Outcome::Refused(refusal) = outcome {
-        return TestAnswer::Refused(refusal);
-    }
-    TestAnswer::Tested(syndrome(answer.coordinates) == 0)
-}
-
-// The syndrome: what the weighted sum of the coordinates leaves on division by 2n - 1.
-fn syndrome(x: Coordinates) -> usize
-    requires { ⌜ (1 ≤ x .len) × (x .len ≤ 11) ⌝ }
-    ensures { λ s. ⌜ s ≡ weight 1 (take (x .len) (x .values)) % modulus (x .len + 1) ⌝ }
-{
-    let m = x.len;
-    let mut sum: usize = 0;
-    let mut i: usize = 1;
-    while i <= m {
-        sum += i * (x.values[i - 1] as usize);
-        i += 1;
-    }
-    sum % (2 * m + 1)
-}
-
 // The number of the codeword with these coordinates. Each arm calls for the table itself, as in `word`.
 fn number(x: Coordinates) -> u32
     requires { ⌜ (isSize (x .len + 1) ≡ true) × (isWord (x .len + 1) (take (x .len) (x .values)) ≡ true) ⌝ }
@@ -357,107 +323,30 @@ pub fn decode(o: Order) -> DecodeAnswer
 pub fn corrected(o: Order) -> CorrectedAnswer
     ensures { λ r. ⌜ toldCorrected r ≡ correctedOf o ⌝ }
 {
-    let read = coordinates::coordinates_of(o);
-    let outcome = read.outcome;
+    let found = decoder::nearest(o);
+    let outcome = found.outcome;
+    let word = found.word;
     if let Outcome::Refused(refusal) = outcome {
-        return no_word(refusal);
-    }
-    let x = read.coordinates;
-    let s = syndrome(x);
-    if s == 0 {
         return CorrectedAnswer {
-            answer: DecodeAnswer::Decoded {
-                symbol: number(x),
-                verdict: Verdict::Clean,
-            },
-            word: o,
+            answer: DecodeAnswer::Refused(refusal),
+            word,
         };
     }
-    let k = exchange_for(o, s);
-    if o.len <= k {
-        return no_word(Refusal::Lost);
-    }
-    let word = exchanged(o, k);
-    let place = k as u8;
     CorrectedAnswer {
         answer: DecodeAnswer::Decoded {
-            symbol: number(corrected_coordinates(x, o, k)),
-            verdict: Verdict::PutRight(Rank(place)),
+            symbol: number(found.coordinates),
+            verdict: verdict_at(found.place),
         },
         word,
     }
 }
 
-// A refusal: there is no codeword.
-fn no_word(refusal: Refusal) -> CorrectedAnswer
-    ensures { λ r. ⌜ toldCorrected r ≡ record { number = refusalNumber refusal; value = record { reading = noReading; word = noOrder } } ⌝ }
+// Clean at place 0, else put right at that place.
+fn verdict_at(place: u8) -> Verdict
+    ensures { λ v. ⌜ v ≡ verdictAt place ⌝ }
 {
-    CorrectedAnswer {
-        answer: DecodeAnswer::Refused(refusal),
-        word: Order {
-            len: 0,
-            cells: [Cell(0); 12],
-        },
+    if place == 0 {
+        return Verdict::Clean;
     }
-}
-
-// The coordinates of an order after the exchange at place k, from those before it: that of the greater of the two cells changes by one, up where
-// that cell stands below, down where it stands above.
-fn corrected_coordinates(x: Coordinates, o: Order, k: usize) -> Coordinates
-    requires { ⌜ Exchangeable o k × (x ≡ coordinatesOf o) ⌝ }
-    ensures { λ r. ⌜ r ≡ coordinatesOf (exchangedOrder o k) ⌝ }
-{
-    let above = o.cells[k - 1].number();
-    let below = o.cells[k].number();
-    let mut next = x;
-    if above < below {
-        next.values[below - 2] = x.values[below - 2] + 1;
-    } else {
-        next.values[above - 2] = x.values[above - 2] - 1;
-    }
-    next
-}
-
-// The first place at which a neighbour exchange makes an order whose syndrome is s, not 0, a codeword; n where there is none.
-fn exchange_for(o: Order, s: usize) -> usize
-    requires { ⌜ Misread o s ⌝ }
-    ensures { λ k. ⌜ k ≡ correction (o .len) (listed o) ⌝ }
-{
-    let n = o.len;
-    let mut k: usize = 1;
-    while k < n {
-        let above = o.cells[k - 1].number();
-        let below = o.cells[k].number();
-        if corrects(n, s, above, below) {
-            return k;
-        }
-        k += 1;
-    }
-    n
-}
-
-// Whether the exchange of a cell and the one just below it makes the syndrome 0: it changes the weighted sum by the greater of the two
-// numbers less 1, up where that cell stands below, down where it stands above.
-fn corrects(n: usize, s: usize, above: usize, below: usize) -> bool
-    requires { ⌜ (1 ≤ n) × (n ≤ 12) × (s < modulus n) × (1 ≤ above) × (above ≤ n) × (1 ≤ below) × (below ≤ n) ⌝ }
-    ensures { λ b. ⌜ b ≡ correctsBy n s above below ⌝ }
-{
-    if above < below {
-        s + (below - 1) == 2 * n - 1
-    } else {
-        s == above - 1
-    }
-}
-
-// The order with the cells of ranks k and k + 1 exchanged.
-fn exchanged(o: Order, k: usize) -> Order
-    requires { ⌜ Exchangeable o k ⌝ }
-    ensures { λ r. ⌜ r ≡ exchangedOrder o k ⌝ }
-{
-    let mut next = o;
-    let above = o.cells[k - 1];
-    let below = o.cells[k];
-    next.cells[k - 1] = below;
-    next.cells[k] = above;
-    next
+    Verdict::PutRight(Rank(place))
 }

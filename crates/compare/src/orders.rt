@@ -5,9 +5,9 @@ use crate::tally::Tally;
 use crate::tally::none;
 use crate::tally::noted;
 use crate::tally::sum;
-use code::TestAnswer;
 use coordinates::Coordinates;
 use cost::CostAnswer;
+use decoder::TestAnswer;
 use distance::DistanceAnswer;
 use naive::numbers::add;
 use naive::numbers::byte;
@@ -111,7 +111,7 @@ fn back(o: Order) -> bool {
 
 fn is_codeword(o: Order) -> bool {
     let b = naive::words::is_codeword(o);
-    match code::is_codeword(o) {
+    match decoder::is_codeword(o) {
         TestAnswer::Refused(r) => same::refusal(r) == b.number,
         TestAnswer::Tested(yes) => {
             if b.number != 0 {

@@ -19,9 +19,9 @@ use Rattle.order.specs.Cells.{isOrder}
 use Rattle.order.specs.Order.{listed, orderRecord, isOrderOf, orderChecks, toldOrder}
 use Rattle.order.proofs.Refusals.{refused-zeros, check-holds, check-fails, check-held, later-decide, refused-first, outcome-first, told-done, told-refused, passed-on, accepted, size-in}
 use Rattle.order.proofs.Records.{passed, recorded-length, recorded-list, recorded-passes}
+use Rattle.decoder.specs.Decoding.{correction}
 use Rattle.code.specs.declared.Verdict.{Verdict}
 use Rattle.code.specs.Words.{K}
-use Rattle.code.specs.Decoding.{correction}
 use Rattle.code.specs.Calls.{wordOf, Reading, noReading, readingAt, codewordChecks, codewordOf, decodeOf}
 use Rattle.code.proofs.Codewords.{symbol-order}
 use Rattle.group.specs.declared.Group.{Group}

@@ -27,11 +27,11 @@ use Rattle.order.proofs.Cells.{both}
 use Rattle.order.proofs.Refusals.{all-held, later-decide, check-holds, check-fails, check-held, all-hold}
 use Rattle.order.proofs.Records.{recorded-list}
 use Rattle.distance.specs.Distance.{exchange}
+use Rattle.decoder.specs.Decoding.{Nearby}
+use Rattle.decoder.proofs.Decoding.{reads, reads-lost}
 use Rattle.code.specs.declared.Verdict.the-variants.{Clean, PutRight}
-use Rattle.code.specs.Words.{K}
-use Rattle.code.specs.Decoding.{symbolOf, Nearby}
+use Rattle.code.specs.Words.{K, symbolOf}
 use Rattle.code.specs.Calls.{wordOf, verdictAt, readingAt, decodeOf}
-use Rattle.code.proofs.Decoding.{reads, reads-lost}
 use Rattle.code.proofs.Symbols.{symbol-reads}
 use Rattle.group.specs.declared.Group.{Group}
 use Rattle.group.specs.Record.{groupChecks}

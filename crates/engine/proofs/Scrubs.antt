@@ -22,15 +22,15 @@ use Rattle.order.specs.Refusals.{refusalNumber, numberOf, ifDone, Told, answer}
 use Rattle.order.specs.Cells.{isOrder}
 use Rattle.order.specs.Order.{orderRecord}
 use Rattle.order.proofs.Refusals.{later-decide, all-held, check-held, refused-first, told-refused}
+use Rattle.decoder.specs.Decoding.{isCodeword}
+use Rattle.decoder.proofs.Decoding.{exchange-order, corrected}
 use Rattle.code.specs.declared.Verdict.{Verdict}
 use Rattle.code.specs.declared.Verdict.the-variants.{Clean}
 use Rattle.code.specs.declared.CorrectedAnswer.{CorrectedAnswer}
-use Rattle.code.specs.Words.{K}
-use Rattle.code.specs.Decoding.{isCodeword, symbolOf}
+use Rattle.code.specs.Words.{K, symbolOf}
 use Rattle.code.specs.Calls.{wordOf, Reading, WordRead, readingAt, toldDecode, toldCorrected, correctedOf}
 use Rattle.code.proofs.Laws.{number-below}
 use Rattle.code.proofs.Codewords.{codeword-word, number-of-codeword}
-use Rattle.code.proofs.Decoding.{exchange-order, corrected}
 use Rattle.code.proofs.Reading.{readingTold, decode-part, corrected-word}
 use Rattle.group.specs.declared.Group.{Group}
 use Rattle.group.specs.Record.{groupChecks}

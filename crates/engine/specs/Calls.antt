@@ -15,8 +15,8 @@ use lib.Dec.{eqb, ltb}
 use Rattle.order.specs.declared.Refusal.{Refusal}
 use Rattle.order.specs.declared.Refusal.the-variants.{NoSymbol, Blank, Lost}
 use Rattle.order.specs.Refusals.{refusalNumber, Told, answer}
+use Rattle.decoder.specs.Decoding.{correction}
 use Rattle.code.specs.Words.{K}
-use Rattle.code.specs.Decoding.{correction}
 use Rattle.code.specs.Calls.{wordOf, Reading, noReading, readingAt}
 use Rattle.group.specs.declared.Group.{Group}
 use Rattle.group.specs.Record.{groupChecks}

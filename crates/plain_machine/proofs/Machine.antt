@@ -19,9 +19,9 @@ use Rattle.order.proofs.Refusals.{check-fails, check-held, later-decide, all-he
 use Rattle.order.proofs.Check.{order-parts}
 use Rattle.coordinates.specs.Calls.{coordinateAt}
 use Rattle.coordinates.proofs.RoundTrip.{order-of-any}
+use Rattle.decoder.proofs.Decoding.{exchange-order}
 use Rattle.code.specs.Words.{wordAt}
 use Rattle.code.specs.Calls.{wordOf, Reading, noReading}
-use Rattle.code.proofs.Decoding.{exchange-order}
 use Rattle.group.specs.declared.Group.{Group}
 use Rattle.group.specs.Levels.{put, AtMost, rises, leaked}
 use Rattle.writing.specs.PushUp.{singles, Shows}

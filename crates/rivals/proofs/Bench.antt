@@ -10,10 +10,10 @@ use lib.ListN.{length}
 use Rattle.order.specs.Refusals as refusals
 use Rattle.order.specs.Refusals.{Told}
 use Rattle.coordinates.specs.Coordinates.{coordinateOf, coordinatesTo, orderFrom}
+use Rattle.decoder.specs.Decoding.{weight, leaves, isCodeword, firstBelow, correction}
 use Rattle.code.specs.declared.Verdict.{Verdict}
 use Rattle.code.specs.declared.Verdict.the-variants.{Clean, PutRight}
-use Rattle.code.specs.Words.{joined, select, same, indexOf, vectorsFrom, weight, leaves, vectors, words, K, wordAt, wordNumber}
-use Rattle.code.specs.Decoding.{isCodeword, firstBelow, correction, symbolOf}
+use Rattle.code.specs.Words.{joined, select, same, indexOf, vectorsFrom, vectors, words, K, wordAt, wordNumber, symbolOf}
 use Rattle.code.specs.Calls.{wordOf, readingAt}
 use Rattle.group.specs.declared.Group.{Group}
 use Rattle.writing.specs.declared.Push.{Push}

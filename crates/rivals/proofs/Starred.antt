@@ -8,8 +8,8 @@ use Rattle.coordinates.specs.Coordinates.{coordinateOf, coordinatesTo, orderFro
 use Rattle.coordinates.specs.Calls.{coordinatesOf, coordinatesOfOrder}
 use Rattle.distance.specs.Distance.{distanceOf}
 use Rattle.cost.specs.Cost.{displacement, displacements, largerOf, largest, cost, displacementsOf, costOf}
-use Rattle.code.specs.Words.{joined, select, same, indexOf, vectorsFrom, weight, leaves, vectors, words, K, wordAt, wordNumber}
-use Rattle.code.specs.Decoding.{isCodeword, firstBelow, correction, symbolOf}
+use Rattle.decoder.specs.Decoding.{weight, leaves, isCodeword, firstBelow, correction}
+use Rattle.code.specs.Words.{joined, select, same, indexOf, vectorsFrom, vectors, words, K, wordAt, wordNumber, symbolOf}
 use Rattle.code.specs.Calls.{wordOf, codewordOf, readingAt, decodeOf}
 use Rattle.group.specs.Levels.{level, put, atMost, rises}
 use Rattle.group.specs.Record.{allAtMost, isRow}

@@ -28,12 +28,13 @@ use Rattle.order.proofs.Tabulate.{getD-tabulate}
 use Rattle.coordinates.specs.Coordinates.{orderFrom}
 use Rattle.coordinates.specs.Calls.{coordinateAt}
 use Rattle.coordinates.proofs.RoundTrip.{order-of-any}
-use Rattle.code.specs.Words.{modulus, weight, leaves, K, wordAt}
+use Rattle.decoder.specs.Decoding.{modulus, weight, leaves}
+use Rattle.decoder.proofs.Decoding.{reads-clean}
+use Rattle.code.specs.Words.{K, wordAt}
 use Rattle.code.specs.Steps.{ranged}
 use Rattle.code.proofs.Tests.{and-both}
 use Rattle.code.proofs.Laws.{Word, of-word, number-below}
 use Rattle.code.proofs.Codewords.{symbol-codeword}
-use Rattle.code.proofs.Decoding.{reads-clean}
 use Rattle.group.specs.declared.Group.{Group}
 use Rattle.group.specs.Levels.{level, put, AtMost, empty, more, atMost}
 use Rattle.writing.specs.PushUp.{singles, top, floorOver, Shows, lift, raise}

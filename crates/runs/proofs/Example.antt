@@ -5,8 +5,8 @@ use mathlib.Core.Path.{_≡_, refl}
 use mathlib.Core.List.{List, [], _∷_}
 use Rattle.order.specs.Refusals as refusals
 use Rattle.coordinates.specs.Coordinates.{coordinateOf, coordinatesTo, orderFrom}
-use Rattle.code.specs.Words.{joined, select, same, indexOf, vectorsFrom, weight, leaves, vectors, words, K, wordAt, wordNumber}
-use Rattle.code.specs.Decoding.{isCodeword, firstBelow, correction, symbolOf}
+use Rattle.decoder.specs.Decoding.{weight, leaves, isCodeword, firstBelow, correction}
+use Rattle.code.specs.Words.{joined, select, same, indexOf, vectorsFrom, vectors, words, K, wordAt, wordNumber, symbolOf}
 use Rattle.code.specs.Calls.{wordOf, readingAt}
 use Rattle.group.specs.Levels.{level, put, atMost, rises, leaked}
 use Rattle.group.specs.Record.{allAtMost, isRow}

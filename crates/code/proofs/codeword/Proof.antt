@@ -12,7 +12,7 @@ use Rattle.order.proofs.Refusals.{check-fails, check-holds, told-refused, size-
 use Rattle.coordinates.specs.Calls.{orderOfCoordinates}
 use Rattle.code.specs.Words.{K}
 use Rattle.code.specs.Calls.{codewordOf}
-use Rattle.code.proofs.Answers.{codeword-answer}
+use Rattle.code.proofs.Codewords.{codeword-answer}
 use Rattle.code.proofs.codeword.Statement.{statement}
 use Rattle.code.proofs.codeword.Tie as tie
 

@@ -1,0 +1,12 @@
+pub mod First
+pub mod Scanning
+pub mod ZeroSyndrome
+pub mod Weight
+pub mod Decoding
+pub mod Stores
+pub mod Neighbours
+pub mod Looking
+pub mod NearestWord
+pub mod Told
+pub mod Row
+pub mod Bench
