@@ -16,7 +16,7 @@ use Rattle.order.specs.Cells.{count, below, isOrder, tabulate}
 use Rattle.order.proofs.Cells.{IsOrder, order-true, lt-cases}
 use Rattle.order.proofs.Mask.{holds-below}
 use Rattle.order.proofs.Tabulate.{tabulate-ext, tabulate-set}
-use Rattle.order.proofs.Sweep.{Downto, Turn, turn-by, met-fits, Swept, swept-none, swept-more, drop-none, met-low, met-high, met-new, met-down}
+use Rattle.order.proofs.Sweep.{Downto, Turn, turn-by, bit-small, met-fits, Swept, swept-none, swept-more, drop-none, met-low, met-high, met-new, met-down}
 use Rattle.coordinates.specs.Coordinates.{coordinateOf, coordinatesTo}
 
 -- ---- the coordinates of a list with one more cell in front
@@ -76,8 +76,11 @@ module _ {xs values : List ℕ} {len met i x : ℕ} (t : Turn (Counted xs len me
   pub counted-high : x ≤ 12
   counted-high = omega (arith, met-high on-down (s .order), s .swept .down .small)
 
-  -- the mask with x
-  pub counted-fits : {b : ℕ} → b ≡ 2 ^ (x - 1) → Fits w32 (met + b)
+  pub counted-bit : 2 ^ (x - 1) ≤ 2048
+  counted-bit = bit-small on-swept counted-high
+
+  -- the mask with one more bit
+  pub counted-fits : {b : ℕ} → b ≤ 2048 → Fits w32 (met + b)
   counted-fits = met-fits on-swept counted-high
 
   pub counted-new : count x (drop i (take len xs)) ≡ 0

@@ -81,12 +81,12 @@ module _ {xs : List ℕ} {len met i x : ℕ} (t : Turn (Swept xs len met i) xs i
   on-down : Turn (Downto xs len i) xs i x
   on-down = turn-by (λ (s : Swept xs len met i). s .down) t
 
-  bit-small : 2 ^ (x - 1) ≤ 2048
+  pub bit-small : 2 ^ (x - 1) ≤ 2048
   bit-small = pow-mono {i = x - 1} {j = 11} (omega arith)
 
-  -- the mask with x
-  pub met-fits : {b : ℕ} → b ≡ 2 ^ (x - 1) → Fits w32 (met + b)
-  met-fits e = omega (arith, bit-small, s .bound, s .down .left, s .down .small)
+  -- the mask with one more bit
+  pub met-fits : {b : ℕ} → b ≤ 2048 → Fits w32 (met + b)
+  met-fits small = omega (arith, s .bound, s .down .left, s .down .small)
 
   pub swept-more : 1 ≤ x → count x (drop i (take len xs)) ≡ 0 → Swept xs len (met + 2 ^ (x - 1)) (i - 1)
   swept-more g z =

@@ -2,12 +2,13 @@
 -- Assumes nothing.
 use borrow.Author.Needs.{needs}
 use Prim.Native.Nat.{_-_, _^_}
+use native.Mathlib.Omega.{arith}
 use mathlib.Core.Path.{_≡_, _∙_}
 use Rattle.order.specs.Order.{cellNumbers}
 use Rattle.order.proofs.Numbers.{length-mapped, length-places, place-at}
 use Rattle.order.proofs.Sweep.{Turn}
 use Rattle.coordinates.specs.Calls.{coordinatesOf}
-use Rattle.coordinates.proofs.Counting.{Counted, counted-none, counted-low, counted-high, counted-fits, counted-more, counted-all}
+use Rattle.coordinates.proofs.Counting.{Counted, counted-none, counted-low, counted-high, counted-bit, counted-fits, counted-more, counted-all}
 use Rattle.coordinates.proofs.coordinates_by_sweep.Statement.{statement}
 use Rattle.coordinates.proofs.coordinates_by_sweep.Tie as tie
 
@@ -43,14 +44,18 @@ put-coordinate-requires : tie.Need-put-coordinate-requires Inv-loop μ-loop
 put-coordinate-requires c κs = counted-high (turn (c .before .before))
 
 bit-of-requires : tie.Need-bit-of-requires Inv-loop μ-loop
-bit-of-requires c κs = (counted-low (turn (c .before .before .before)), counted-high (turn (c .before .before .before)))
+bit-of-requires c κs =
+    let t = turn (c .before .before .before) in
+    (omega (arith, counted-low t), omega (arith, counted-high t))
 
 -- the bit that is added
 bit : (c : tie.After-bit-of Inv-loop μ-loop) → c .bit-of .result ≡ 2 ^ (c .before .before .before .before .number .result - 1)
 bit c = c .bit-of .ensures
 
 add-met : tie.Need-add-met Inv-loop μ-loop
-add-met c = counted-fits (turn (c .before .before .before .before)) (bit c)
+add-met c =
+    let t = turn (c .before .before .before .before) in
+    counted-fits t (omega (arith, c .bit-of .ensures, counted-bit t))
 
 loop-less : tie.Need-loop-less Inv-loop μ-loop
 loop-less c = search needs
