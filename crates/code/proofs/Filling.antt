@@ -5,7 +5,7 @@ use mathlib.Core.List.{List, [], _∷_, _++_}
 use Prim.Native.Nat.{ℕ, zero, suc, _+_, _-_, _≤_, _<_}
 use native.Mathlib.Nat.{sub-zero, zero-sub, suc-sub-suc, zero-add}
 use native.Mathlib.Omega.{arith}
-use lib.ListN.{length, drop, replicate, set}
+use lib.ListN.{length, drop, replicate, set, drop-of-length-le}
 use lib.Seq.{sets, sets-eq}
 use Rattle.coordinates.specs.declared.Coordinates.{Coordinates}
 use Rattle.decoder.specs.Decoding.{modulus}
@@ -68,15 +68,11 @@ module _ (n symbol : ℕ) (values : List ℕ) (number r i : ℕ) (f : Filling n 
         stored = rw (e, place) (rw (word-step at (c .value) (chosen .range) number (c .number) (chosen .split) (chosen .left)) at (f .stored));
       }
 
-  nothing-left : (x : List ℕ) → length x ≡ 0 → x ≡ []
-  nothing-left [] e = refl
-  nothing-left (v ∷ x) e = absurd (omega arith)
-
   pub end : n ≤ i → _≡_ {A = Coordinates} (record { len = n - 1; values = values }) (held (wordAt n symbol))
   unfolding tails
   end h =
       let whole = word-right (modulus n) (omega arith) (n - i) i r number (f .residue) (f .some) .0 in
-      let none : wordFrom n i r number ≡ [] = nothing-left (wordFrom n i r number) (omega arith) in
+      let none : wordFrom n i r number ≡ [] = drop-of-length-le (wordFrom n i r number) {i = 0} (omega arith) in
       let all : values ≡ sets (replicate 11 0) 0 (wordAt n symbol) = rw none at (f .stored) in
       let size : length (wordAt n symbol) ≡ n - 1 = word-of n (wordAt n symbol) (word-is-word n (omega arith) symbol (f .known .some)) .size in
       rw (all, stored-front (wordAt n symbol) (omega arith), size)

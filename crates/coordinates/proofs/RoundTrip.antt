@@ -2,13 +2,13 @@
 -- The laws are stated for `IsOrder`; those at the end speak of `isOrder`.
 -- Assumes nothing.
 use Prim.Native.Nat.{ℕ, zero, suc, _+_, _-_, _≤_, _<_}
-use native.Mathlib.Nat.{not-suc-le-zero, le-of-suc-le-suc, suc-ne-zero, eq-or-lt-of-le}
+use native.Mathlib.Nat.{not-suc-le-zero, le-of-suc-le-suc, eq-or-lt-of-le}
 use native.Mathlib.Omega.{arith}
 use mathlib.Core.Path.{_≡_, refl, sym, ap, ap₂, _∙_}
 use mathlib.Core.Bool.{true}
 use mathlib.Core.Logic.{⊎-elim}
 use mathlib.Core.List.{List, [], _∷_, _++_}
-use lib.ListN.{length, take, drop, length-append, length-drop, take-append-drop}
+use lib.ListN.{length, take, drop, length-append, length-drop, take-append-drop, drop-of-length-le}
 use lib.Dec.{eqb}
 use lib.Seq.{take-at, drop-at}
 use borrow.Author.Tests.{eq-eqb, ne-eqb, le-leb, lt-leb}
@@ -126,10 +126,6 @@ order-ext (suc n) x y h = rw (h n (omega arith), order-ext n x y (λ i l. h i (o
 insert-between : (c : ℕ) (a b : List ℕ) (k : ℕ) → length a ≡ k → insertAt k c (a ++ b) ≡ a ++ c ∷ b
 insert-between c a b k e = ap₂ (λ (p q : List ℕ). p ++ c ∷ q) (take-at a b k e) (drop-at a b k e)
 
-no-length : (xs : List ℕ) → length xs ≡ 0 → [] ≡ xs
-no-length [] e = refl
-no-length (x ∷ xs) e = absurd (suc-ne-zero (length xs) e)
-
 back-step : (n : ℕ) (a b : List ℕ) → IsOrder (suc n) (a ++ suc n ∷ b) → count (suc n) a ≡ 0
     → (IsOrder n (a ++ b) → orderFrom (coordinateOf (a ++ b)) n ≡ a ++ b)
     → orderFrom (coordinateOf (a ++ suc n ∷ b)) (suc n) ≡ a ++ suc n ∷ b
@@ -142,7 +138,7 @@ back-step n a b o z back =
 -- an order is the order of its coordinates
 pub order-back : (n : ℕ) (xs : List ℕ) → IsOrder n xs → orderFrom (coordinateOf xs) n ≡ xs
 unfolding orderFrom
-order-back zero xs o = no-length xs (o .size)
+order-back zero xs o = sym (drop-of-length-le xs {i = 0} (omega (arith, o .size)))
 order-back (suc n) xs o = go (parted (suc n) xs (omega (arith, order-count (suc n) xs o n (omega arith)))) (λ ys r. order-back n ys r)
   where
     go : Parted (suc n) xs → ((ys : List ℕ) → IsOrder n ys → orderFrom (coordinateOf ys) n ≡ ys) → orderFrom (coordinateOf xs) (suc n) ≡ xs

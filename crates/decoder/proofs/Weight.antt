@@ -15,9 +15,9 @@ use Rattle.order.specs.Cells.{tabulate}
 use Rattle.order.proofs.Cells.{lt-cases, eq-cases, IsOrder, order-range}
 use Rattle.order.proofs.Tabulate.{tabulate-ext}
 use Rattle.coordinates.specs.Coordinates.{coordinateOf, coordinatesTo}
-use Rattle.distance.specs.Distance.{exchange, exchangePast}
+use Rattle.distance.specs.Distance.{exchange}
 use Rattle.distance.proofs.Counts.{order-distinct}
-use Rattle.distance.proofs.Exchange.{Exchanged, here, there, exchanged-apart}
+use Rattle.distance.proofs.Exchange.{Exchanged, exchange-at, exchanged-apart}
 use Rattle.distance.proofs.OneCoordinate.{OneMore, coordinate-more, coordinate-less}
 use Rattle.decoder.specs.Decoding.{modulus, weight, leaves, isCodeword}
 use Rattle.decoder.specs.Steps.{syndromeOf, correctsBy}
@@ -67,18 +67,13 @@ module _ (m : ℕ) (d : ℕ) (l : d < m) where
       (λ t. let f : (s + d) % m ≡ s + d - m = mod-eq-sub-mod (t .0) ∙ mod-eq-of-lt (omega arith) in (λ p. absurd (omega arith), λ q. absurd (omega arith)))
       (lt-cases (s + d) m)
 
-same-test : (p q r t : ℕ) → (p ≡ q) ↔ (r ≡ t) → eqb p q ≡ eqb r t
+-- two tests that pass together are the same
+pub same-test : (p q r t : ℕ) → (p ≡ q) ↔ (r ≡ t) → eqb p q ≡ eqb r t
 same-test p q r t (f, g) =
     ⊎-elim (λ (e : (p ≡ q) × (eqb q p ≡ true)). eq-eqb p q (e .0) ∙ sym (eq-eqb r t (f (e .0))))
     (λ (e : (p ≡ q → ⊥) × (eqb q p ≡ false)). ne-eqb p q (e .0) ∙ sym (ne-eqb r t (λ x. e .0 (g x)))) (eq-cases p q)
 
 -- ---- an exchange at a place
-
-exchange-neighbours : (k : ℕ) (u : List ℕ) → suc k < length u → Exchanged (getD u k 0) (getD u (suc k) 0) u (exchangePast k u)
-exchange-neighbours k [] h = absurd (omega arith)
-exchange-neighbours zero (x ∷ []) h = absurd (omega arith)
-exchange-neighbours zero (x ∷ y ∷ u) h = here u
-exchange-neighbours (suc k) (z ∷ u) h = there z (exchange-neighbours k u (omega arith))
 
 -- the exchange at place k + 1, of the cell a and the cell b just below it
 module _ (n : ℕ) (u : List ℕ) (o : IsOrder n u) (k : ℕ) (h : suc k < n) where
@@ -89,7 +84,7 @@ module _ (n : ℕ) (u : List ℕ) (o : IsOrder n u) (k : ℕ) (h : suc k < n) wh
   b = getD u (suc k) 0
 
   neighbours : Exchanged a b u (exchange (suc k) u)
-  neighbours = exchange-neighbours k u (omega (arith, o .size))
+  neighbours = exchange-at k u (omega (arith, o .size))
 
   -- two cells of the order
   pub place-cells : ((1 ≤ a) × (a ≤ n)) × ((1 ≤ b) × (b ≤ n)) × (a ≡ b → ⊥)

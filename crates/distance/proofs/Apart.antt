@@ -43,7 +43,8 @@ one-apart {u} {w} s d = (to, from)
         (within-one s d (omega arith))
 
     from : (k : ℕ) × (1 ≤ k) × (k < length u) × (w ≡ exchange k u) → opposed u w ≡ 1
-    from (k, g, h, e) = let (x, y, t) = exchange-at k u g h in ap (opposed u) e ∙ exchanged-one t d
+    from (zero, g, h, e) = absurd (omega arith)
+    from (suc k, g, h, e) = ap (opposed u) e ∙ exchanged-one (exchange-at k u h) d
 
 -- ---- both ways
 

@@ -28,16 +28,12 @@ pub place-of : {x y : ℕ} {u v : List ℕ} → Exchanged x y u v
 place-of (here u) = (0, omega arith, refl, refl, refl)
 place-of (there z s) = let (k, h, p, q, e) = place-of s in (suc k, omega arith, p, q, ap (λ (w : List ℕ). z ∷ w) e)
 
--- the exchange at such a place is one of neighbours
-pub exchange-at : (k : ℕ) (u : List ℕ) → 1 ≤ k → k < length u → (x : ℕ) × (y : ℕ) × Exchanged x y u (exchange k u)
-exchange-at zero u g h = absurd (omega arith)
-exchange-at (suc k) u g h = past k u h
-  where
-    past : (k : ℕ) (u : List ℕ) → suc k < length u → (x : ℕ) × (y : ℕ) × Exchanged x y u (exchangePast k u)
-    past k [] h = absurd (omega arith)
-    past zero (x ∷ []) h = absurd (omega arith)
-    past zero (x ∷ y ∷ u) h = (x, y, here u)
-    past (suc k) (z ∷ u) h = let (x, y, s) = past k u (omega arith) in (x, y, there z s)
+-- the exchange at such a place is that of the cells of its rank and the next
+pub exchange-at : (k : ℕ) (u : List ℕ) → suc k < length u → Exchanged (getD u k 0) (getD u (suc k) 0) u (exchange (suc k) u)
+exchange-at k [] h = absurd (omega arith)
+exchange-at zero (x ∷ []) h = absurd (omega arith)
+exchange-at zero (x ∷ y ∷ u) h = here u
+exchange-at (suc k) (z ∷ u) h = there z (exchange-at k u (omega arith))
 
 -- and at any place it is one of neighbours, or changes nothing
 pub exchange-cases : (k : ℕ) (u : List ℕ) → ((x : ℕ) × (y : ℕ) × Exchanged x y u (exchange k u)) ⊎ (exchange k u ≡ u)

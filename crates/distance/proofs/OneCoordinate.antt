@@ -4,7 +4,7 @@
 --   coordinate-less   where x stands just above a lower y, it makes coordinate x - 1 one less, and changes no other
 --   one-coordinate    so each exchange in an order, at a place from 1 to n - 1, changes just one coordinate, and by one
 -- Assumes nothing.
-use Prim.Native.Nat.{ℕ, suc, _+_, _-_, _≤_, _<_}
+use Prim.Native.Nat.{ℕ, zero, suc, _+_, _-_, _≤_, _<_}
 use native.Mathlib.Omega.{arith}
 use mathlib.Core.Path.{_≡_, refl, ap}
 use mathlib.Core.Logic.{_⊎_, inl, inr, ⊎-elim}
@@ -98,13 +98,14 @@ coordinate-less s o h = coordinate-more (back s) (exchanged-order s o) h
 
 pub one-coordinate : (n : ℕ) (u : List ℕ) → isOrder n u ≡ true → (k : ℕ) → 1 ≤ k → k < n
     → (i : ℕ) × (OneMore n i u (exchange k u) ⊎ OneMore n i (exchange k u) u)
-one-coordinate n u p k g h = found (exchange-at k u g (omega (arith, o .size)))
+one-coordinate n u p zero g h = absurd (omega arith)
+one-coordinate n u p (suc k) g h = found (exchange-at k u (omega (arith, o .size)))
   where
     o : IsOrder n u
     o = order-true n u p
 
-    found : {v : List ℕ} → (x : ℕ) × (y : ℕ) × Exchanged x y u v → (i : ℕ) × (OneMore n i u v ⊎ OneMore n i v u)
-    found (x, y, s) =
+    found : {x y : ℕ} {v : List ℕ} → Exchanged x y u v → (i : ℕ) × (OneMore n i u v ⊎ OneMore n i v u)
+    found {x} {y} s =
         ⊎-elim (λ t. (y - 1, inl (coordinate-more s o (t .0))))
         (λ t. (x - 1, inr (coordinate-less s o (let f : (x ≡ y → ⊥) = exchanged-apart s (order-distinct o) in omega arith))))
         (lt-cases x y)
