@@ -16,7 +16,7 @@ ghost use Rattle.order.specs.Refusals.{outcomeNumber, numberOf};
 ghost use Rattle.order.specs.Cells.{isOrder};
 ghost use Rattle.order.specs.Order.{listed, toldOrder};
 ghost use Rattle.coordinates.specs.Coordinates.{limit, inRange};
-ghost use Rattle.coordinates.specs.Calls.{coordinatesOf, orderByCoordinates, coordinateChecks, toldCoordinates, coordinatesOfOrder, orderOfCoordinates};
+ghost use Rattle.coordinates.specs.Calls.{coordinatesOf, orderByCoordinates, coordinateChecks, noCoordinates, toldCoordinates, coordinatesOfOrder, orderOfCoordinates};
 
 // Coordinate i of an order at index i - 1. Indices from `len` on hold 0.
 pub struct Coordinates {
@@ -37,15 +37,22 @@ pub fn coordinates_of(o: Order) -> CoordinatesAnswer
     let Outcome::Done = outcome else {
         return CoordinatesAnswer {
             outcome,
-            coordinates: Coordinates {
-                len: 0,
-                values: [0; 11],
-            },
+            coordinates: zero_coordinates(),
         };
     };
     CoordinatesAnswer {
         outcome: Outcome::Done,
         coordinates: coordinates_by_sweep(o),
+    }
+}
+
+// The all-zero record of coordinates: none.
+pub fn zero_coordinates() -> Coordinates
+    ensures { λ r. ⌜ r ≡ noCoordinates ⌝ }
+{
+    Coordinates {
+        len: 0,
+        values: [0; 11],
     }
 }
 

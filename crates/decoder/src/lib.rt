@@ -98,10 +98,7 @@ fn no_word(refusal: Refusal) -> NearestAnswer
         outcome: Outcome::Refused(refusal),
         word: order::zero_order(),
         place: 0,
-        coordinates: Coordinates {
-            len: 0,
-            values: [0; 11],
-        },
+        coordinates: coordinates::zero_coordinates(),
     }
 }
 

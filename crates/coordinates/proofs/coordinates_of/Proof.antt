@@ -17,9 +17,14 @@ enum-told c = search needs
 enum-told-2 : tie.Need-enum-told-2
 enum-told-2 c = search needs
 
+zero-coordinates-requires : tie.Need-zero-coordinates-requires
+zero-coordinates-requires c κs = search needs
+
 returns : tie.Need-returns
 unfolding coordinatesOfOrder
-returns c = passed-on _ _ _ _ (c .before .before .check-order .ensures) _ (c .enum-told2 .given .1)
+returns c =
+    rw (c .zero-coordinates .ensures)
+    (passed-on _ _ _ _ (c .before .before .before .check-order .ensures) _ (c .before .enum-told2 .given .1))
 
 coordinates-by-sweep-requires : tie.Need-coordinates-by-sweep-requires
 coordinates-by-sweep-requires c κs =
@@ -39,6 +44,7 @@ coordinates-of-spec =
     check-order-requires
     enum-told
     enum-told-2
+    zero-coordinates-requires
     returns
     coordinates-by-sweep-requires
     returns-2)

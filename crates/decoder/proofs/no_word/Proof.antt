@@ -7,8 +7,11 @@ use Rattle.decoder.proofs.no_word.Tie as tie
 zero-order-requires : tie.Need-zero-order-requires
 zero-order-requires c κs = search needs
 
+zero-coordinates-requires : tie.Need-zero-coordinates-requires
+zero-coordinates-requires c κs = search needs
+
 returns : tie.Need-returns
-returns c = rw (c .zero-order .ensures)
+returns c = rw (c .before .zero-order .ensures, c .zero-coordinates .ensures)
 
 pub no-word-spec : {M : Type 1} → statement M
-no-word-spec = tie.close (tie.spec zero-order-requires returns)
+no-word-spec = tie.close (tie.spec zero-order-requires zero-coordinates-requires returns)
