@@ -1,17 +1,16 @@
 -- Codewords as orders: the word of a number is the coordinates of an order, that order is a codeword, and a codeword's coordinates are a word.
 -- Assumes nothing.
 use Prim.Native.Nat.{ℕ, zero, suc, _+_, _-_, _≤_, _<_}
-use native.Mathlib.Nat.{not-suc-le-zero, le-of-suc-le-suc, add-zero}
 use native.Mathlib.Omega.{arith}
 use mathlib.Core.Path.{_≡_, refl, sym, ap, _∙_, subst}
 use mathlib.Core.Bool.{true}
 use mathlib.Core.Logic.{⊎-elim}
 use mathlib.Core.List.{List, [], _∷_, _++_}
-use lib.Dec.{T, leb, leb→le, le→leb, ltb}
+use lib.Dec.{T, ltb}
 use lib.ListN.{length, getD, replicate, List·getD-eq-default}
 use lib.Seq.{ext-getD}
-use borrow.Author.Tests.{le-leb, lt-leb, lt-ltb}
-use Rattle.order.specs.Cells.{isOrder, tabulate}
+use borrow.Author.Tests.{lt-ltb}
+use Rattle.order.specs.Cells.{isOrder}
 use Rattle.order.specs.Refusals as refusals
 use Rattle.order.specs.Order.{orderRecord}
 use Rattle.order.proofs.Cells.{lt-cases}
@@ -19,32 +18,14 @@ use Rattle.order.proofs.Tabulate.{length-tabulate, getD-tabulate}
 use Rattle.order.proofs.Refusals.{told-done, sized-holds}
 use Rattle.coordinates.specs.Coordinates.{coordinateOf, coordinatesTo, orderFrom, inRange}
 use Rattle.coordinates.specs.Calls.{coordinateAt, orderByCoordinates, coordinateChecks, orderOfCoordinates}
-use Rattle.coordinates.proofs.Range.{all-in-range}
-use Rattle.coordinates.proofs.RoundTrip.{order-ext, coordinate-back, coordinates-low, order-of-coordinates, order-of-any}
+use Rattle.coordinates.proofs.Range.{limit-low, range-at, all-in-range}
+use Rattle.coordinates.proofs.RoundTrip.{order-ext, coordinate-back, coordinates-low, coordinates-in-range, order-of-coordinates, order-of-any}
 use Rattle.decoder.specs.Decoding.{modulus, leaves, isCodeword}
 use Rattle.code.specs.Words.{K, wordAt, wordNumber}
 use Rattle.code.specs.Calls.{wordOf, codewordOf}
-use Rattle.code.specs.Steps.{held, ranged, isWord}
-use Rattle.code.proofs.Tests.{is-true, and-left, and-right, and-both}
+use Rattle.code.specs.Steps.{held, isWord}
+use Rattle.code.proofs.Tests.{is-true}
 use Rattle.code.proofs.Laws.{word-of, of-word, word-is-word, number-of-word, word-of-number}
-
--- ---- ranges
-
-ranged-at : (i k : ℕ) (x : List ℕ) → T (ranged i x) → k < length x → getD x k 0 ≤ i + k
-unfolding ranged
-ranged-at i k [] t l = absurd (not-suc-le-zero l)
-ranged-at i zero (v ∷ x) t l = rw add-zero (leb→le v i (and-left (leb v i) (ranged (suc i) x) t))
-ranged-at i (suc k) (v ∷ x) t l =
-    let next : i + suc k ≡ suc i + k = omega arith in
-    rw next (ranged-at (suc i) k x (and-right (leb v i) (ranged (suc i) x) t) (le-of-suc-le-suc l))
-
-all-ranged : (i m : ℕ) (f : ℕ → ℕ) → ((k : ℕ) → k < m → f k ≤ i + k) → T (ranged i (tabulate m f))
-unfolding ranged
-all-ranged i zero f h = tt
-all-ranged i (suc m) f h =
-    let first : f 0 ≤ i = rw add-zero at (h 0 (omega arith)) in
-    and-both (leb (f 0) i) (ranged (suc i) (tabulate m (λ k. f (suc k)))) (le→leb (f 0) i first)
-    (all-ranged (suc i) m (λ k. f (suc k)) (λ k l. let e : i + suc k ≡ suc i + k = omega arith in rw e at (h (suc k) (omega arith))))
 
 -- ---- a list of coordinates in its record
 
@@ -56,14 +37,14 @@ held-at [] (suc k) (suc j) = held-at [] k j
 held-at (v ∷ x) zero j = refl
 held-at (v ∷ x) (suc k) j = held-at x k j
 
-module _ (x : List ℕ) (t : T (ranged 1 x)) where
+module _ (x : List ℕ) (t : inRange (length x) 1 x ≡ true) where
   held-in-range : inRange (length x) 1 (held x .values) ≡ true
   held-in-range =
       all-in-range (length x) 1 (held x .values)
       (λ k l. rw (held-at x k (11 - length x))
       (⊎-elim
-      (λ c. rw (le-leb (1 + k) (length x) (omega arith)) (ranged-at 1 k x t (c .0)))
-      (λ c. rw (lt-leb (1 + k) (length x) (omega arith)) (omega (arith, List·getD-eq-default x 0 {n = k} (c .0))))
+      (λ c. range-at (length x) 1 k x t (c .0))
+      (λ c. omega (arith, List·getD-eq-default x 0 {n = k} (c .0)))
       (lt-cases k (length x))))
 
   -- the record of a word passes the checks of coordinates
@@ -87,7 +68,7 @@ module _ (n : ℕ) (pos : 0 < n) (x : List ℕ) (w : isWord n x ≡ true) where
 
   low : (i : ℕ) → i < n → coordinateAt x i ≤ i
   low zero l = omega arith
-  low (suc k) l = let t = word-of n x w in omega (arith, ranged-at 1 k x (t .range) (omega arith))
+  low (suc k) l = let t = word-of n x w in omega (arith, range-at (n - 1) 1 k x (t .range) (omega arith), limit-low (n - 1) (1 + k))
 
   -- it has the word for its coordinates
   pub word-coordinates : coordinatesTo (n - 1) u ≡ x
@@ -129,7 +110,7 @@ module _ (n : ℕ) (pos : 0 < n) (u : List ℕ) (o : isOrder n u ≡ true) where
   codeword-word c =
       of-word n (coordinatesTo (n - 1) u) (record {
         size = length-tabulate (n - 1) (λ k. coordinateOf u (suc k));
-        range = all-ranged 1 (n - 1) (λ k. coordinateOf u (suc k)) (λ k l. omega (arith, coordinates-low n u o (suc k) (omega arith)));
+        range = coordinates-in-range n u o (n - 1);
         sum = subst T (sym c) tt;
       })
 
@@ -152,5 +133,5 @@ codeword-answer n s low high h =
     let t = word-of n (wordAt n s) (word-is-word n (omega arith) s h) in
     let cells : length (wordAt n s) + 1 ≡ n = omega arith in
     let same = rw cells at (held-order (wordAt n s)) in
-    sym (told-done _ _ _ (held-passes (wordAt n s) (t .range) (omega arith) (omega arith)))
+    sym (told-done _ _ _ (held-passes (wordAt n s) (rw (t .size) (t .range)) (omega arith) (omega arith)))
     ∙ rw same (told-done _ _ _ (sized-holds n (ltb s (K n)) _ low high (lt-ltb s (K n) h)))

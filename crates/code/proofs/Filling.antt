@@ -1,7 +1,7 @@
 -- The invariant of `word`: it holds at the start, after each coordinate, and at the end it is the answer.
 -- Assumes nothing.
 use mathlib.Core.Path.{_≡_, refl, _∙_}
-use mathlib.Core.List.{List, [], _∷_, _++_}
+use mathlib.Core.List.{List, [], _++_}
 use Prim.Native.Nat.{ℕ, zero, suc, _+_, _-_, _≤_, _<_}
 use native.Mathlib.Nat.{sub-zero, zero-sub, suc-sub-suc, zero-add}
 use native.Mathlib.Omega.{arith}
@@ -71,7 +71,7 @@ module _ (n symbol : ℕ) (values : List ℕ) (number r i : ℕ) (f : Filling n 
   pub end : n ≤ i → _≡_ {A = Coordinates} (record { len = n - 1; values = values }) (held (wordAt n symbol))
   unfolding tails
   end h =
-      let whole = word-right (modulus n) (omega arith) (n - i) i r number (f .residue) (f .some) .0 in
+      let whole = word-right (modulus n) (omega arith) (n - 1) (n - i) i r number (omega arith) (f .residue) (f .some) .0 in
       let none : wordFrom n i r number ≡ [] = drop-of-length-le (wordFrom n i r number) {i = 0} (omega arith) in
       let all : values ≡ sets (replicate 11 0) 0 (wordAt n symbol) = rw none at (f .stored) in
       let size : length (wordAt n symbol) ≡ n - 1 = word-of n (wordAt n symbol) (word-is-word n (omega arith) symbol (f .known .some)) .size in

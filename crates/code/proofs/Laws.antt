@@ -9,10 +9,11 @@ use lib.Dec.{T, eqb}
 use lib.ListN.{length, getD}
 use borrow.Author.Tests.{eqb-true, eq-eqb}
 use Rattle.order.proofs.Cells.{both}
+use Rattle.coordinates.specs.Coordinates.{inRange}
 use Rattle.decoder.specs.Decoding.{modulus, leaves}
 use Rattle.code.specs.Words.{select, vectorsFrom, vectors, words, K, wordAt, wordNumber}
 use Rattle.code.specs.Tails.{tails, Entry, Block}
-use Rattle.code.specs.Steps.{ranged, isWord}
+use Rattle.code.specs.Steps.{isWord}
 use Rattle.code.proofs.Tests.{is-true}
 use Rattle.code.proofs.Lists.{getD-index}
 use Rattle.code.proofs.Numbering.{wordsFrom, count, found, number-word, word-right}
@@ -20,20 +21,20 @@ use Rattle.code.proofs.Numbering.{wordsFrom, count, found, number-word,
 -- what it takes to be a word
 pub record Word (n : ℕ) (x : List ℕ) : Type 0 where
   pub size : length x ≡ n - 1
-  pub range : T (ranged 1 x)
+  pub range : inRange (n - 1) 1 x ≡ true
   pub sum : T (leaves (modulus n) 1 0 x)
 
 pub word-of : (n : ℕ) (x : List ℕ) → isWord n x ≡ true → Word n x
 unfolding isWord
 word-of n x w =
     let sized = eqb (length x) (n - 1) in
-    let a = both (sized && ranged 1 x) (leaves (modulus n) 1 0 x) w in
-    let b = both sized (ranged 1 x) (a .0) in
-    record { size = eqb-true (length x) (n - 1) (b .0); range = subst T (sym (b .1)) tt; sum = subst T (sym (a .1)) tt }
+    let a = both (sized && inRange (n - 1) 1 x) (leaves (modulus n) 1 0 x) w in
+    let b = both sized (inRange (n - 1) 1 x) (a .0) in
+    record { size = eqb-true (length x) (n - 1) (b .0); range = b .1; sum = subst T (sym (a .1)) tt }
 
 pub of-word : (n : ℕ) (x : List ℕ) → Word n x → isWord n x ≡ true
 unfolding isWord
-of-word n x w = rw (eq-eqb (length x) (n - 1) (w .size), is-true (ranged 1 x) (w .range), is-true (leaves (modulus n) 1 0 x) (w .sum))
+of-word n x w = rw (eq-eqb (length x) (n - 1) (w .size), w .range, is-true (leaves (modulus n) 1 0 x) (w .sum))
 
 -- a count of the table is the number of choices of the coordinates from i on that leave r
 pub entry-counts :
@@ -61,14 +62,14 @@ module _ (n : ℕ) (pos : 0 < n) where
   pub word-is-word : (s : ℕ) → s < K n → isWord n (wordAt n s) ≡ true
   unfolding wordAt tails words wordsFrom vectors
   word-is-word s h =
-      let (size, range, sum) = word-right (modulus n) (omega arith) (n - 1) 1 0 s (omega arith) (rw (← K-entry) at h) in
+      let (size, range, sum) = word-right (modulus n) (omega arith) (n - 1) (n - 1) 1 0 s (omega arith) (omega arith) (rw (← K-entry) at h) in
       of-word n (wordAt n s) (record { size = size; range = range; sum = sum })
 
   pub number-below : (x : List ℕ) → isWord n x ≡ true → wordNumber n x < K n
   unfolding wordNumber tails words wordsFrom vectors
   number-below x w =
       let t = word-of n x w in
-      rw (← K-entry, ← t .size) (found (modulus n) (omega arith) x 1 0 (omega arith) (t .range) (t .sum))
+      rw (← K-entry, ← t .size) (found (modulus n) (omega arith) (n - 1) x 1 0 (omega arith) (t .range) (t .sum))
 
   pub word-of-number : (x : List ℕ) → isWord n x ≡ true → wordAt n (wordNumber n x) ≡ x
   unfolding wordNumber wordAt K

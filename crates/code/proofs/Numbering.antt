@@ -1,19 +1,20 @@
 -- The numbering of the words: their count, the word of a number and the number of a word, each by the first coordinate.
 -- Assumes nothing.
 use mathlib.Core.Path.{_≡_, refl, sym, ap, _∙_, subst, fun-ext}
-use mathlib.Core.Bool.{Bool}
+use mathlib.Core.Bool.{Bool, true}
 use mathlib.Core.List.{List, [], _∷_, map}
 use Prim.Native.Nat.{ℕ, zero, suc, _+_, _*_, _%_, _≤_, _<_}
 use native.Mathlib.Nat.{mod-lt, zero-mod, not-suc-le-zero, le-refl}
 use native.Mathlib.Omega.{arith}
-use lib.Dec.{T, leb, leb→le, le→leb, eqb→eq}
+use lib.Dec.{T, leb, eqb→eq}
 use lib.ListN.{length, getD, length-map}
-use borrow.Author.Tests.{ne-eqb}
+use borrow.Author.Tests.{ne-eqb, leb-true, le-leb}
+use Rattle.order.proofs.Cells.{both}
+use Rattle.coordinates.specs.Coordinates.{limit, inRange}
+use Rattle.coordinates.proofs.Range.{limit-low}
 use Rattle.decoder.specs.Decoding.{weight, leaves}
 use Rattle.code.specs.Words.{joined, select, vectorsFrom, same, indexOf}
 use Rattle.code.specs.Tails.{sumBelow, owed, nothing, tailsFrom}
-use Rattle.code.specs.Steps.{ranged}
-use Rattle.code.proofs.Tests.{and-left, and-right, and-both}
 use Rattle.code.proofs.Residue.{shift}
 use Rattle.code.proofs.Lists.{after, select-joined, select-map, length-joined, getD-joined, getD-map, index-joined, within-sum, sum-term}
 
@@ -109,19 +110,20 @@ module _ (m : ℕ) (pos : 0 < m) where
 
   -- of a word, the coordinates after the first are a word that leaves what is owed
   pub tail-word :
-      (i r v : ℕ) (x : List ℕ) → r < m → T (ranged i (v ∷ x)) → T (leaves m i r (v ∷ x))
-      → (v ≤ i) × T (ranged (suc i) x) × T (leaves m (suc i) (owed m i r v) x)
-  unfolding ranged leaves weight owed
-  tail-word i r v x h range sum =
-      (leb→le v i (and-left (leb v i) (ranged (suc i) x) range), and-right (leb v i) (ranged (suc i) x) range, subst T (shift m (i * v) (weight (suc i) x) r h) sum)
+      (top i r v : ℕ) (x : List ℕ) → r < m → inRange top i (v ∷ x) ≡ true → T (leaves m i r (v ∷ x))
+      → (v ≤ i) × (inRange top (suc i) x ≡ true) × T (leaves m (suc i) (owed m i r v) x)
+  unfolding inRange leaves weight owed
+  tail-word top i r v x h range sum =
+      let (first, later) = both (leb v (limit top i)) (inRange top (suc i) x) range in
+      (omega (arith, leb-true v (limit top i) first, limit-low top i), later, subst T (shift m (i * v) (weight (suc i) x) r h) sum)
 
   -- a word is found among the words
-  pub found : (x : List ℕ) (i r : ℕ) → r < m → T (ranged i x) → T (leaves m i r x) → indexOf x (wordsFrom m (length x) i r) < tailsFrom m (length x) i r
+  pub found : (top : ℕ) (x : List ℕ) (i r : ℕ) → r < m → inRange top i x ≡ true → T (leaves m i r x) → indexOf x (wordsFrom m (length x) i r) < tailsFrom m (length x) i r
   unfolding leaves weight indexOf same tailsFrom nothing
-  found [] i r h range sum = rw (sym (eqb→eq (0 % m) r sum), zero-mod, last-word) (le-refl 1)
-  found (v ∷ x) i r h range sum =
-      let (hv, range′, sum′) = tail-word i r v x h range sum in
-      let later = found x (suc i) (owed m i r v) (owed-lt i r v) range′ sum′ in
+  found top [] i r h range sum = rw (sym (eqb→eq (0 % m) r sum), zero-mod, last-word) (le-refl 1)
+  found top (v ∷ x) i r h range sum =
+      let (hv, range′, sum′) = tail-word top i r v x h range sum in
+      let later = found top x (suc i) (owed m i r v) (owed-lt i r v) range′ sum′ in
       omega (arith, number-suc (length x) i r v h hv x later, below-next (length x) i r v h hv)
 
   -- the number of the word of a number
@@ -138,15 +140,15 @@ module _ (m : ℕ) (pos : 0 < m) where
       (number-suc k i r v h hv (getD (next k i r v h hv) t []) (rw ih lt) ∙ ap (λ (j : ℕ). below m k i r v + j) ih)
 
   -- what stands at a number is a word
-  pub word-right : (k i r s : ℕ) → r < m → s < tailsFrom m k i r
-      → (length (getD (wordsFrom m k i r) s []) ≡ k) × T (ranged i (getD (wordsFrom m k i r) s [])) × T (leaves m i r (getD (wordsFrom m k i r) s []))
-  unfolding tailsFrom ranged leaves weight owed
-  word-right zero i r s h hs =
+  pub word-right : (top k i r s : ℕ) → i + k ≤ suc top → r < m → s < tailsFrom m k i r
+      → (length (getD (wordsFrom m k i r) s []) ≡ k) × (inRange top i (getD (wordsFrom m k i r) s []) ≡ true) × T (leaves m i r (getD (wordsFrom m k i r) s []))
+  unfolding tailsFrom inRange leaves weight owed
+  word-right top zero i r s g h hs =
       let (e, z) = nothing-lt r s hs in
-      rw (e, z, last-word, zero-mod) (refl, tt, tt)
-  word-right (suc k) i r s h hs =
+      rw (e, z, last-word, zero-mod) (refl, refl, tt)
+  word-right top (suc k) i r s g h hs =
       let (v, lv, t, lt, e) = pick k i r s hs in
       let hv : v ≤ i = omega arith in
-      let (len, range, sum) = word-right k (suc i) (owed m i r v) t (owed-lt i r v) lt in
+      let (len, range, sum) = word-right top k (suc i) (owed m i r v) t (omega arith) (owed-lt i r v) lt in
       rw (e, word-suc k i r v h hv t lt)
-      (ap suc len, and-both (leb v i) _ (le→leb v i hv) range, subst T (sym (shift m (i * v) (weight (suc i) (getD (next k i r v h hv) t [])) r h)) sum)
+      (ap suc len, rw (le-leb i top (omega arith), le-leb v i hv) range, subst T (sym (shift m (i * v) (weight (suc i) (getD (next k i r v h hv) t [])) r h)) sum)

@@ -12,11 +12,12 @@ use lib.ListN.{length, length-drop}
 use Rattle.order.specs.Refusals.{isSize}
 use Rattle.order.proofs.Refusals.{size-true}
 use Rattle.coordinates.specs.declared.Coordinates.{Coordinates}
+use Rattle.coordinates.specs.Coordinates.{inRange}
 use Rattle.decoder.specs.Decoding.{modulus, leaves}
 use Rattle.decoder.proofs.Scanning.{Sized, cut, at, from, from-cons, from-end, length-cut}
 use Rattle.code.specs.Words.{words, vectors, wordNumber}
 use Rattle.code.specs.Tails.{tails, owed, before}
-use Rattle.code.specs.Steps.{ranged, isWord, Choosing}
+use Rattle.code.specs.Steps.{isWord, Choosing}
 use Rattle.code.proofs.Rule.{tails-fit}
 use Rattle.code.proofs.Numbering.{wordsFrom, owed-lt, tail-word, found, number-zero}
 use Rattle.code.proofs.Laws.{K-entry, word-of, number-below}
@@ -34,7 +35,7 @@ pub record Summing (x : Coordinates) (sum r i : ℕ) : Type 0 where
   pub first : 1 ≤ i
   pub last : i ≤ cells x
   pub residue : r < modulus (cells x)
-  pub range : T (ranged i (from x i))
+  pub range : inRange (cells x - 1) i (from x i) ≡ true
   pub sum-leaves : T (leaves (modulus (cells x)) i r (from x i))
   pub total : sum + numberFrom (cells x) i r (from x i) ≡ wordNumber (cells x) (cut x)
 
@@ -56,9 +57,9 @@ start x size s w =
     }
 
 -- the number of coordinates from i on is below their count
-found-from : (n i r : ℕ) (x : List ℕ) → 0 < n → length x ≡ n - i → r < modulus n → T (ranged i x) → T (leaves (modulus n) i r x) → numberFrom n i r x < tails n i r
+found-from : (n i r : ℕ) (x : List ℕ) → 0 < n → length x ≡ n - i → r < modulus n → inRange (n - 1) i x ≡ true → T (leaves (modulus n) i r x) → numberFrom n i r x < tails n i r
 unfolding tails
-found-from n i r x pos len h range sum = rw (← len) (found (modulus n) (omega arith) x i r h range sum)
+found-from n i r x pos len h range sum = rw (← len) (found (modulus n) (omega arith) (n - 1) x i r h range sum)
 
 module _ (x : Coordinates) (sum r i : ℕ) (s : Summing x sum r i) where
   abbrev n : ℕ
@@ -74,8 +75,8 @@ module _ (x : Coordinates) (sum r i : ℕ) (s : Summing x sum r i) where
     cons : from x i ≡ v ∷ from x (i + 1)
     cons = from-cons x (s .sized) i (s .first) h
 
-    later : (v ≤ i) × T (ranged (i + 1) (from x (i + 1))) × T (leaves (modulus n) (i + 1) r′ (from x (i + 1)))
-    later = rw (add-one i) (tail-word (modulus n) (omega arith) i r v (from x (suc i)) (s .residue) (rw (cons, add-one i) at (s .range)) (rw (cons, add-one i) at (s .sum-leaves)))
+    later : (v ≤ i) × (inRange (n - 1) (i + 1) (from x (i + 1)) ≡ true) × T (leaves (modulus n) (i + 1) r′ (from x (i + 1)))
+    later = rw (add-one i) (tail-word (modulus n) (omega arith) (n - 1) i r v (from x (suc i)) (s .residue) (rw (cons, add-one i) at (s .range)) (rw (cons, add-one i) at (s .sum-leaves)))
 
     -- what each call for coordinate i asks
     pub choosing : Choosing n i r × (v ≤ i)

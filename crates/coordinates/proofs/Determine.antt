@@ -29,7 +29,7 @@ module _ (o : Order) (d : numberOf (orderChecks o) ≡ 0) where
   unfolding coordinatesOf
   coordinates-pass =
       sized-holds (o .len - 1 + 1) _ _ (omega (arith, passed o d .0)) (omega (arith, passed o d .0, passed o d .1))
-      (coordinates-in-range (o .len) (listed o) (passed-listed o d))
+      (coordinates-in-range (o .len) (listed o) (passed-listed o d) 11)
 
   held : (i : ℕ) → i < o .len → coordinateAt (coordinatesTo 11 (listed o)) i ≡ coordinateOf (listed o) i
   unfolding coordinatesTo

@@ -1,11 +1,11 @@
 -- The check that coordinates are in range, and what it tells.
 -- Assumes nothing.
 use Prim.Native.Nat.{ℕ, zero, suc, _+_, _≤_, _<_}
-use native.Mathlib.Nat.{not-suc-le-zero, le-of-suc-le-suc, add-zero}
+use native.Mathlib.Nat.{not-suc-le-zero, le-of-suc-le-suc, le-refl, add-zero}
 use native.Mathlib.Numerals.{add-one}
 use native.Mathlib.Omega.{arith}
 use mathlib.Core.Path.{_≡_, refl}
-use mathlib.Core.Bool.{Bool, true, _&&_, and-true, and-assoc}
+use mathlib.Core.Bool.{Bool, true, false, cond, _&&_, and-true, and-assoc}
 use mathlib.Core.List.{List, [], _∷_}
 use lib.ListN.{length, getD, drop, drop-of-length-le}
 use lib.Dec.{leb}
@@ -39,7 +39,14 @@ module _ {x : Coordinates} {within : Bool} {k : ℕ} (t : RangedTo x within k) w
 
 -- ---- what it tells of a value
 
-range-at : (m i k : ℕ) (xs : List ℕ) → inRange m i xs ≡ true → k < length xs → getD xs k 0 ≤ limit m (i + k)
+pub limit-low : (m i : ℕ) → limit m i ≤ i
+limit-low m i = go (leb i m)
+  where
+    go : (b : Bool) → cond b i 0 ≤ i
+    go true = le-refl i
+    go false = omega arith
+
+pub range-at : (m i k : ℕ) (xs : List ℕ) → inRange m i xs ≡ true → k < length xs → getD xs k 0 ≤ limit m (i + k)
 unfolding inRange
 range-at m i k [] e l = absurd (not-suc-le-zero l)
 range-at m i zero (x ∷ xs) e l = rw add-zero (leb-true x (limit m i) (both (leb x (limit m i)) (inRange m (suc i) xs) e .0))

@@ -14,7 +14,7 @@ use lib.Seq.{take-at, drop-at}
 use borrow.Author.Tests.{eq-eqb, ne-eqb, le-leb, lt-leb}
 use Rattle.order.specs.Cells.{count, below, isOrder}
 use Rattle.order.proofs.Cells.{IsOrder, order-true, true-order, order-count, order-past, lt-cases, eq-cases, tally-lt, tally-ge, tally-eq, tally-ne, below-suc, below-append, below-le, countIf-append}
-use Rattle.order.proofs.Tabulate.{getD-tabulate}
+use Rattle.order.proofs.Tabulate.{length-tabulate, getD-tabulate}
 use Rattle.coordinates.specs.Coordinates.{after, coordinateOf, coordinatesTo, insertAt, orderFrom, inRange}
 use Rattle.coordinates.proofs.Range.{all-in-range}
 
@@ -171,11 +171,11 @@ module _ (n : ℕ) (xs : List ℕ) (t : isOrder n xs ≡ true) where
   pub coordinates-low : (i : ℕ) → i ≤ n → coordinateOf xs i ≤ i
   coordinates-low = coordinate-le n xs (order-true n xs t)
 
-  pub coordinates-in-range : inRange (n - 1) 1 (coordinatesTo 11 xs) ≡ true
+  pub coordinates-in-range : (m : ℕ) → inRange (n - 1) 1 (coordinatesTo m xs) ≡ true
   unfolding coordinatesTo
-  coordinates-in-range =
-      all-in-range (n - 1) 1 (coordinatesTo 11 xs)
-      (λ k l. rw (getD-tabulate 11 (λ k. coordinateOf xs (suc k)) k 0 l)
+  coordinates-in-range m =
+      all-in-range (n - 1) 1 (coordinatesTo m xs)
+      (λ k l. rw (getD-tabulate m (λ k. coordinateOf xs (suc k)) k 0 (omega (arith, length-tabulate m (λ k. coordinateOf xs (suc k)))))
       (⊎-elim
       (λ t. rw (le-leb (1 + k) (n - 1) (omega arith)) (omega (arith, coordinates-low (suc k) (omega arith))))
       (λ g. rw (lt-leb (1 + k) (n - 1) (omega arith)) (omega (arith, coordinate-past n xs (order-true n xs t) (suc k) (omega arith))))

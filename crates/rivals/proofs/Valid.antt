@@ -9,7 +9,7 @@ use mathlib.Core.Bool.{Bool, true, false, cond}
 use mathlib.Core.List.{List, [], _∷_, _++_}
 use native.Mathlib.Nat.{zero-mod}
 use native.Mathlib.Omega.{arith}
-use lib.Dec.{T, lit<, leb, ltb, le→leb}
+use lib.Dec.{lit<, ltb}
 use lib.ListN.{length, getD, replicate, length-replicate}
 use borrow.Author.Tests.{lt-ltb, le-ltb, le-leb, lt-leb}
 use Rattle.code.specs.Calls.{wordOf}
@@ -25,14 +25,12 @@ use Rattle.order.proofs.Check.{order-parts}
 use Rattle.order.proofs.Inverse.{own-place}
 use Rattle.order.proofs.Records.{record-order}
 use Rattle.order.proofs.Tabulate.{getD-tabulate}
-use Rattle.coordinates.specs.Coordinates.{orderFrom}
+use Rattle.coordinates.specs.Coordinates.{orderFrom, limit, inRange}
 use Rattle.coordinates.specs.Calls.{coordinateAt}
 use Rattle.coordinates.proofs.RoundTrip.{order-of-any}
 use Rattle.decoder.specs.Decoding.{modulus, weight, leaves}
 use Rattle.decoder.proofs.Decoding.{reads-clean}
 use Rattle.code.specs.Words.{K, wordAt}
-use Rattle.code.specs.Steps.{ranged}
-use Rattle.code.proofs.Tests.{and-both}
 use Rattle.code.proofs.Laws.{Word, of-word, number-below}
 use Rattle.code.proofs.Codewords.{symbol-codeword}
 use Rattle.group.specs.declared.Group.{Group}
@@ -207,10 +205,10 @@ module _ (g : Group) (h : IsGroup g) (s : ℕ) (l : s < K (g .n)) (f : numberOf 
 
 -- ---- first calls
 
-ranged-zeros : (i k : ℕ) → T (ranged i (replicate k 0))
-unfolding ranged
-ranged-zeros i zero = tt
-ranged-zeros i (suc k) = and-both (leb 0 i) (ranged (suc i) (replicate k 0)) (le→leb 0 i (omega arith)) (ranged-zeros (suc i) k)
+zeros-in-range : (m i k : ℕ) → inRange m i (replicate k 0) ≡ true
+unfolding inRange
+zeros-in-range m i zero = refl
+zeros-in-range m i (suc k) = rw (le-leb 0 (limit m i) (omega arith)) (zeros-in-range m (suc i) k)
 
 weight-zeros : (i k : ℕ) → weight i (replicate k 0) ≡ 0
 unfolding weight
@@ -268,7 +266,7 @@ module _ (n : ℕ) (size : isSize n ≡ true) where
   some-symbol =
       let low = size-true n size .0 in
       let x : List ℕ = replicate (n - 1) 0 in
-      let w : Word n x = record { size = length-replicate (n - 1) 0; range = ranged-zeros 1 (n - 1); sum = rw (weight-zeros 1 (n - 1), zero-mod (modulus n)) tt } in
+      let w : Word n x = record { size = length-replicate (n - 1) 0; range = zeros-in-range (n - 1) 1 (n - 1); sum = rw (weight-zeros 1 (n - 1), zero-mod (modulus n)) tt } in
       omega (arith, number-below n (omega arith) x (of-word n x w))
 
   module _ (s : ℕ) (l : s < K n) where
