@@ -1,4 +1,4 @@
--- The invariant of `word`: it holds at the start, after each coordinate, and at the end it is the answer.
+-- The invariant of `word_by`: it holds at the start, after each coordinate, and at the end it is the answer.
 -- Assumes nothing.
 use mathlib.Core.Path.{_≡_, refl, _∙_}
 use mathlib.Core.List.{List, [], _++_}

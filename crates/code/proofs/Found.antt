@@ -1,6 +1,6 @@
 -- What the answer of `decode` says of an order that passes its checks, by the distance of codewords.
 --
---   decode-finds     a codeword c within distance 1 is what the order reads as: its symbol is answered, clean exactly where c is the order itself
+--   decode-finds     the symbol of a codeword within distance 1 is answered, with the verdict of the correction's place
 --   decode-found-by  and whatever is answered is the symbol of such a codeword
 --   decode-clean-by  the verdict is clean exactly where the order is a codeword itself
 --   decode-lost-by   7 is answered exactly where there is none

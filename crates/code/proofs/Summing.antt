@@ -1,4 +1,4 @@
--- The invariant of `number`: it holds at the start, after each coordinate, and at the end it is the answer.
+-- The invariant of `number_by`: it holds at the start, after each coordinate, and at the end it is the answer.
 -- Assumes nothing.
 use mathlib.Core.Path.{_≡_}
 use mathlib.Core.Bool.{true}
