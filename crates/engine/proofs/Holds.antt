@@ -18,14 +18,11 @@ use mathlib.Core.Option.{some}
 use lib.Dec.{eqb, ltb}
 use borrow.Author.Tests.{ltb-true, ltb-false, lt-ltb, le-ltb, eqb-true, eq-eqb}
 use Rattle.order.specs.declared.Refusal.the-variants.{Size, NoGroup, NoSymbol, Blank, Lost}
-use Rattle.order.specs.declared.Order.{Order}
-use Rattle.order.specs.declared.Outcome.the-variants.{Done}
 use Rattle.order.specs.Refusals.{numberOf, ifDone, Told, answer}
 use Rattle.order.specs.Cells.{isOrder}
-use Rattle.order.specs.Order.{listed, orderRecord}
+use Rattle.order.specs.Order.{orderRecord}
 use Rattle.order.proofs.Cells.{both}
 use Rattle.order.proofs.Refusals.{all-held, later-decide, check-holds, check-fails, check-held, all-hold}
-use Rattle.order.proofs.Records.{recorded-list}
 use Rattle.distance.specs.Distance.{exchange}
 use Rattle.decoder.specs.Decoding.{Nearby}
 use Rattle.decoder.proofs.Decoding.{reads, reads-lost}
@@ -35,14 +32,14 @@ use Rattle.code.specs.Calls.{wordOf, verdictAt, readingAt, decodeOf}
 use Rattle.code.proofs.Symbols.{symbol-reads}
 use Rattle.group.specs.declared.Group.{Group}
 use Rattle.group.specs.Record.{groupChecks}
-use Rattle.writing.specs.Calls.{Program, pushChecks, pushed, unpushed, writeOf}
+use Rattle.writing.specs.Calls.{Program, pushChecks, pushed, unpushed}
 use Rattle.group.proofs.Checks.{checked-size}
 use Rattle.sensing.proofs.Sensed.{sensed-order}
-use Rattle.group.proofs.Groups.{IsGroup}
-use Rattle.writing.proofs.Writes.{write-accepted, write-group}
-use Rattle.sensing.proofs.Written.{write-sensed}
+use Rattle.group.proofs.Groups.{IsGroup, told-accepted}
+use Rattle.writing.proofs.Writes.{group-pushed, push-group}
+use Rattle.sensing.proofs.Written.{raised-sensed}
 use Rattle.engine.specs.Calls.{sensedOrder, placeRead, readChecks, readOf, storeOf, alikeOf}
-use Rattle.engine.proofs.Answers.{sense-record, read-number, read-done, read-decoded, word-order, store-written, alike-done}
+use Rattle.engine.proofs.Answers.{read-number, read-done, read-decoded, word-order, alike-done}
 
 -- ---- a codeword, or one with two neighbours exchanged
 
@@ -65,64 +62,37 @@ module _ (h : Group) (d : numberOf (groupChecks h) ≡ 0) (w : h .written ≡ tr
 -- ---- a store
 
 module _ (g : Group) (s : ℕ) where
-  -- what an accepted store knows
+  abbrev word : List ℕ
+  word = wordOf (g .n) s
+
+  -- what an accepted store knows, and what it leaves
   pub store-accepted : storeOf g s .number ≡ 0
-      → (numberOf (groupChecks g) ≡ 0) × (s < K (g .n)) × (numberOf (pushChecks g (wordOf (g .n) s)) ≡ 0)
-  unfolding storeOf answer
+      → (numberOf (groupChecks g) ≡ 0) × (s < K (g .n)) × (numberOf (pushChecks g word) ≡ 0) × (storeOf g s .value ≡ pushed g word)
+  unfolding storeOf
   store-accepted e =
-      let t = all-held _ (groupChecks g) e in
-      let p = check-held (ltb s (K (g .n))) NoSymbol _ (t .1) in
-      (t .0, ltb-true s (K (g .n)) (p .0), p .1)
-
-  -- a refused store gives the record back
-  store-kept : {k : ℕ} → storeOf g s .number ≡ suc k → storeOf g s .value ≡ unpushed g
-  unfolding storeOf answer
-  store-kept e = rw e
-
-  abbrev word : Order
-  word = orderRecord (wordOf (g .n) s)
-
-  -- an accepted one is the write of the codeword
-  accepted-write : storeOf g s .number ≡ 0 → writeOf g word ≡ storeOf g s
-  accepted-write e = let (d, below, _) = store-accepted e in store-written g s d below
+      let t = told-accepted _ (pushed g word) (unpushed g) e in
+      let c = all-held _ (groupChecks g) (t .0) in
+      let p = check-held (ltb s (K (g .n))) NoSymbol _ (c .1) in
+      (c .0, ltb-true s (K (g .n)) (p .0), p .1, t .1)
 
   pub store-group : IsGroup g → IsGroup (storeOf g s .value .group)
-  store-group h = go (storeOf g s .number) refl
-    where
-      go : (k : ℕ) → storeOf g s .number ≡ k → IsGroup (storeOf g s .value .group)
-      go zero e = rw (accepted-write e) at (write-group g word h)
-      go (suc k) e = rw (store-kept e) h
+  unfolding storeOf
+  store-group h = push-group (λ (p : Program). p .group) g word (groupChecks g ++ (ltb s (K (g .n)), NoSymbol) ∷ []) (pushed g word) (unpushed g) h refl refl
 
   -- it leaves a written group of as many cells, whose order is the codeword
   abbrev Holding : Group → Type 0
-  Holding after = (numberOf (groupChecks after) ≡ 0) × (after .n ≡ g .n) × (after .written ≡ true) × (sensedOrder after ≡ wordOf (g .n) s)
-
-  write-holds : IsGroup g → s < K (g .n) → writeOf g word .number ≡ 0 → Holding (writeOf g word .value .group)
-  unfolding pushed orderRecord
-  write-holds h below k =
-      let after = writeOf g word .value .group in
-      let left = write-accepted g word k .3 in
-      let n : after .n ≡ g .n = ap (λ (p : Program). p .group .n) left in
-      let d = write-group g word h .passes in
-      let (low, high) = checked-size g (h .passes) in
-      let same = sense-record after (record { outcome = Done; order = word }) (sym (write-sensed g word h refl k)) d in
-      let list = recorded-list (after .n) (sensedOrder after) (sensed-order (after .n) (after .levels)) (omega arith) (omega arith) in (
-        d,
-        n,
-        ap (λ (p : Program). p .group .written) left,
-        sym list ∙ ap listed (sym same) ∙ recorded-list (g .n) (wordOf (g .n) s) (word-order g s (h .passes) below) low high,
-      )
+  Holding after = (numberOf (groupChecks after) ≡ 0) × (after .n ≡ g .n) × (after .written ≡ true) × (sensedOrder after ≡ word)
 
   pub store-holds : IsGroup g → storeOf g s .number ≡ 0 → Holding (storeOf g s .value .group)
+  unfolding pushed
   store-holds h e =
-      let (_, below, _) = store-accepted e in
-      let same = accepted-write e in
-      rw same at (write-holds h below (rw same e))
+      let (d, below, f, left) = store-accepted e in
+      rw left (group-pushed g word h f .passes, refl, refl, raised-sensed g word h (word-order g s d below))
 
   pub store-reads : IsGroup g → storeOf g s .number ≡ 0 → readOf (storeOf g s .value .group) ≡ record { number = 0; value = record { symbol = s; verdict = some Clean } }
   store-reads h e =
       let (d, n, w, list) = store-holds h e in
-      let (_, below, _) = store-accepted e in
+      let (_, below, _, _) = store-accepted e in
       clean-reads (storeOf g s .value .group) d w s (rw n below) (list ∙ ap (λ (k : ℕ). wordOf k s) (sym n))
 
 -- ---- within distance 1, and lost

@@ -6,6 +6,8 @@
 --   scrub-lost, scrub-found   the same by the answers of `corrected` to the order sensed and of the read
 --   scrub-reads   after an accepted scrub a read answers the symbol that was read before it, clean
 --   scrub-tells   an accepted scrub tells the symbol and the verdict of a read before it
+--   scrub-group   a group stays a group under scrub
+--   store-scrubs  a group that was stored to can be scrubbed
 --   scrub-kept    a refused scrub, worn or other, gives the group back, with symbol 0, no verdict and no pulses
 -- Assumes nothing.
 use Prim.Native.Nat.{ℕ, zero, suc, _<_}
@@ -36,14 +38,15 @@ use Rattle.group.specs.declared.Group.{Group}
 use Rattle.group.specs.Record.{groupChecks}
 use Rattle.writing.specs.Calls.{Program, pushed, unpushed, writeOf}
 use Rattle.group.proofs.Checks.{checked-size}
+use Rattle.writing.proofs.Writes.{push-group, push-again}
 use Rattle.sensing.proofs.Sensed.{sensed-order}
 use Rattle.group.proofs.Groups.{IsGroup}
 use Rattle.engine.specs.declared.ReadAnswer.{ReadAnswer}
 use Rattle.engine.specs.declared.ReadAnswer.the-variants as read
 use Rattle.engine.specs.Calls.{sensedOrder, placeRead, readChecks, readingOf, toldRead, readOf, storeOf}
 use Rattle.engine.specs.Scrub.{Step, quiet, programmedStep, wordFound, scrubChecks, scrubOf, afterRead}
-use Rattle.engine.proofs.Answers.{read-number, read-done, read-decoded, sensed-recorded, write-listed, store-written}
-use Rattle.engine.proofs.Holds.{store-reads}
+use Rattle.engine.proofs.Answers.{read-number, read-done, read-decoded, sensed-recorded, write-listed, word-order, store-written}
+use Rattle.engine.proofs.Holds.{store-accepted, store-holds, store-reads}
 
 -- ---- the codeword found, and the symbol that stands for it
 
@@ -163,3 +166,23 @@ module _ (g : Group) where
   -- it tells the symbol and the verdict of the read
   pub scrub-tells : scrubOf g .number ≡ 0 → readOf g ≡ record { number = 0; value = record { symbol = scrubOf g .value .symbol; verdict = scrubOf g .value .verdict } }
   scrub-tells e = let (d, _, same) = scrub-store e in rw same (read-done g d)
+
+  -- a group stays a group
+  pub scrub-group : IsGroup g → IsGroup (scrubOf g .value .group)
+  unfolding scrubOf
+  scrub-group h =
+      push-group (λ (s : Step). s .group) g (wordFound g) (readChecks g) (programmedStep (pushed g (wordFound g)) (readingOf g .symbol) (readingOf g .verdict)) (quiet g) h refl
+      refl
+
+-- a group that was stored to can be scrubbed: no cell has to rise
+pub store-scrubs : (g : Group) (s : ℕ) → IsGroup g → storeOf g s .number ≡ 0 → scrubOf (storeOf g s .value .group) .number ≡ 0
+unfolding scrubOf answer
+store-scrubs g s h e =
+    let after = storeOf g s .value .group in
+    let (d, below, f, left) = store-accepted g s e in
+    let (_, n, _, _) = store-holds g s h e in
+    let reads = store-reads g s h e in
+    let done : numberOf (readChecks after) ≡ 0 = sym (read-number after) ∙ ap (λ (t : Told Reading). t .number) reads in
+    let symbol : readingOf after .symbol ≡ s = ap (λ (t : Told Reading). t .value .symbol) (sym (read-done after done) ∙ reads) in
+    let found : wordFound after ≡ wordOf (g .n) s = sym (symbol-word after done) ∙ rw (symbol, n) in
+    later-decide _ (readChecks after) done ∙ rw (found, left) (push-again g (wordOf (g .n) s) h (word-order g s d below) f)

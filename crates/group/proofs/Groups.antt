@@ -29,15 +29,16 @@ pub record IsGroup (g : Group) : Type 0 where
 
 -- ---- answers
 
--- what holds of the result where the call is accepted, and of what a refusal gives back, holds of the answer's value
+-- what holds of the result where the number is 0, and of the zeros, holds of what the number picks
+pub by-number : {A : Type 0} (P : A → Type 0) (k : ℕ) (result zeros : A) → (k ≡ 0 → P result) → P zeros → P (ifDone k result zeros)
+by-number P zero result zeros p q = p refl
+by-number P (suc k) result zeros p q = q
+
+-- so with an answer's value
 pub told-value : {A : Type 0} (P : A → Type 0) (checks : List (Bool × Refusal)) (result zeros : A) → (numberOf checks ≡ 0 → P result) → P zeros
     → P (answer checks result zeros .value)
 unfolding answer
-told-value P checks result zeros p q = go (numberOf checks) refl
-  where
-    go : (k : ℕ) → numberOf checks ≡ k → P (ifDone k result zeros)
-    go zero e = p e
-    go (suc k) e = q
+told-value P checks result zeros p q = by-number P (numberOf checks) result zeros p q
 
 pub told-accepted : {A : Type 0} (checks : List (Bool × Refusal)) (result zeros : A) → answer checks result zeros .number ≡ 0
     → (numberOf checks ≡ 0) × (answer checks result zeros .value ≡ result)

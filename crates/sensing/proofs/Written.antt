@@ -1,11 +1,14 @@
 -- A reading after an accepted write finds the order that was written.
 -- Assumes nothing.
 use Prim.Native.Nat.{ℕ}
+use mathlib.Core.Bool.{true}
+use mathlib.Core.List.{List}
 use mathlib.Core.Path.{_≡_, sym, ap, _∙_}
 use native.Mathlib.Omega.{arith}
 use lib.ListN.{length}
 use Rattle.order.specs.declared.Order.{Order}
 use Rattle.order.specs.declared.Refusal.the-variants.{NoOrder}
+use Rattle.order.specs.Cells.{isOrder}
 use Rattle.order.specs.Order.{listed, isOrderOf, orderRecord}
 use Rattle.order.proofs.Refusals.{sized-holds, told-done}
 use Rattle.order.proofs.Check.{order-parts}
@@ -15,22 +18,24 @@ use Rattle.group.specs.Record.{programmed}
 use Rattle.group.proofs.Checks.{checked-size}
 use Rattle.group.proofs.Groups.{IsGroup}
 use Rattle.writing.specs.Calls.{raised, pushed, writeOf}
-use Rattle.writing.proofs.Orders.{order-shows}
-use Rattle.writing.proofs.Writes.{write-accepted, write-group}
+use Rattle.writing.proofs.Writes.{write-accepted, write-group, raised-shows}
 use Rattle.sensing.specs.Sense.{sensed, senseOf}
 use Rattle.sensing.proofs.Sensed.{sensed-back}
+
+-- the order that the cells are raised to is the one that is sensed
+pub raised-sensed : (g : Group) (xs : List ℕ) → IsGroup g → isOrder (g .n) xs ≡ true → sensed (g .n) (raised g xs) ≡ xs
+raised-sensed g xs h t = sensed-back (g .n) xs (raised g xs) t (raised-shows g xs h t)
 
 -- a reading after an accepted write finds the order that was written
 pub write-sensed : (g : Group) (o : Order) → IsGroup g → length (o .cells) ≡ 12 → writeOf g o .number ≡ 0
     → senseOf (writeOf g o .value .group) ≡ record { number = 0; value = o }
-unfolding senseOf pushed raised
+unfolding senseOf pushed
 write-sensed g o h w e =
     let t = write-accepted g o e in
     let after : IsGroup (programmed g (raised g (listed o))) = rw (t .3) at (write-group g o h) in
     let parts = order-parts (g .n) o (t .1) .1 in
     let n = parts .long in
     let size = checked-size g (h .passes) in
-    let shows = order-shows 1 (g .n) (listed o) (g .levels) (parts .order) (omega (arith, h .levels)) in
-    let back : sensed (g .n) (raised g (listed o)) ≡ listed o = sensed-back (g .n) (listed o) (raised g (listed o)) (parts .order) shows in
+    let back = raised-sensed g (listed o) h (parts .order) in
     let same : orderRecord (listed o) ≡ o = record-back o (sized-holds (o .len) (isOrderOf (o .len) o) NoOrder (omega arith) (omega arith) (ap (λ (k : ℕ). isOrderOf k o) n ∙ t .1)) w in
     rw (t .3) (sym (told-done _ _ _ (after .passes)) ∙ ap (λ (x : Order). record { number = 0; value = x }) (ap orderRecord back ∙ same))

@@ -4,3 +4,4 @@ pub mod Raising
 pub mod Told
 pub mod Row
 pub mod Writes
+pub mod Stairs

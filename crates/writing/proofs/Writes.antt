@@ -1,13 +1,14 @@
 -- What a write knows of its group, its order and its levels, and what it leaves: a group stays a group.
 -- Assumes nothing.
 use Prim.Native.Nat.{ℕ, _-_, _≤_}
-use mathlib.Core.Path.{_≡_, ap, _∙_}
-use mathlib.Core.Bool.{true}
-use mathlib.Core.List.{[], List}
+use mathlib.Core.Path.{_≡_, refl, ap, _∙_}
+use mathlib.Core.Bool.{Bool, true}
+use mathlib.Core.List.{List, [], _∷_, _++_}
 use native.Mathlib.Omega.{arith}
 use Rattle.order.specs.declared.Order.{Order}
+use Rattle.order.specs.declared.Refusal.{Refusal}
 use Rattle.order.specs.declared.Refusal.the-variants.{NoOrder, Worn}
-use Rattle.order.specs.Refusals.{numberOf}
+use Rattle.order.specs.Refusals.{numberOf, answer}
 use Rattle.order.specs.Cells.{isOrder}
 use Rattle.order.specs.Order.{listed, isOrderOf}
 use Rattle.order.proofs.Cells.{order-true}
@@ -21,9 +22,10 @@ use Rattle.group.proofs.Levels.{at-most-refl, at-most-trans, at-most-length, at
 use Rattle.group.proofs.Checks.{checked-size, checked-levels, checked-caps}
 use Rattle.group.proofs.Groups.{IsGroup, told-value, told-accepted, group-with}
 use Rattle.writing.specs.PushUp.{singles, Shows}
-use Rattle.writing.specs.Calls.{Program, raised, fits, pushChecks, pushed, unpushed, writeChecks, writeOf}
+use Rattle.writing.specs.Calls.{Program, raised, fits, pushChecks, pushed, unpushed, writeOf}
 use Rattle.writing.proofs.Raise.{raise-least}
 use Rattle.writing.proofs.Raising.{few-pushes}
+use Rattle.writing.proofs.Orders.{order-shows}
 
 -- an order that is handed in for a group, and the group's levels, can be raised
 pub checked-target : (g : Group) (o : Order) → numberOf (groupChecks g) ≡ 0 → isOrderOf (g .n) o ≡ true
@@ -53,6 +55,13 @@ group-pushed g xs h e =
     let low = at-most-true (raised g xs) (g .caps) (push-held g xs e) in
     group-with g h (raised g xs) (g .caps) true (row-below 4095 (g .n) low (checked-caps g (h .passes))) (at-most-length low ∙ h .caps) (at-most-refl (g .caps))
 
+-- so a call that raises cells, whatever it checks first, answers a group
+pub push-group :
+    {A : Type 0} (group : A → Group) (g : Group) (xs : List ℕ) (first : List (Bool × Refusal)) (result zeros : A)
+    → IsGroup g → group result ≡ pushed g xs .group → group zeros ≡ g → IsGroup (group (answer (first ++ pushChecks g xs) result zeros .value))
+push-group group g xs first result zeros h e f =
+    told-value (λ x. IsGroup (group x)) (first ++ pushChecks g xs) result zeros (λ k. rw e (group-pushed g xs h (all-held _ first k .1))) (rw f h)
+
 -- what an accepted write knows: its group, its order, and that its last checks hold; and what it leaves
 pub write-accepted : (g : Group) (o : Order) → writeOf g o .number ≡ 0
     → (numberOf (groupChecks g) ≡ 0) × (isOrderOf (g .n) o ≡ true) × (numberOf (pushChecks g (listed o)) ≡ 0) × (writeOf g o .value ≡ pushed g (listed o))
@@ -65,11 +74,21 @@ write-accepted g o e =
 
 pub write-group : (g : Group) (o : Order) → IsGroup g → IsGroup (writeOf g o .value .group)
 unfolding writeOf
-write-group g o h =
-    told-value (λ (p : Program). IsGroup (p .group)) (writeChecks g o) (pushed g (listed o)) (unpushed g)
-    (λ e. group-pushed g (listed o) h (check-held (isOrderOf (g .n) o) NoOrder _ (all-held _ (groupChecks g) e .1) .1)) h
+write-group g o h = push-group (λ (p : Program). p .group) g (listed o) (groupChecks g ++ (isOrderOf (g .n) o, NoOrder) ∷ []) (pushed g (listed o)) (unpushed g) h refl refl
 
 -- no new level is above its cap where some levels, none lower than the old ones, show the order within the caps
 pub fits-where : (g : Group) (xs ms : List ℕ) → AtMost (g .levels) ms → Shows 1 (singles xs) ms → AtMost ms (g .caps) → fits g xs ≡ true
 unfolding fits raised
 fits-where g xs ms p s q = true-at-most (at-most-trans (raise-least 1 (singles xs) p s) q)
+
+-- an order of the group's cells shows when they are raised to it
+pub raised-shows : (g : Group) (xs : List ℕ) → IsGroup g → isOrder (g .n) xs ≡ true → Shows 1 (singles xs) (raised g xs)
+unfolding raised
+raised-shows g xs h t = order-shows 1 (g .n) xs (g .levels) t (omega (arith, checked-size g (h .passes), h .levels))
+
+-- and they can be raised to it again
+pub push-again : (g : Group) (xs : List ℕ) → IsGroup g → isOrder (g .n) xs ≡ true → numberOf (pushChecks g xs) ≡ 0 → numberOf (pushChecks (pushed g xs .group) xs) ≡ 0
+unfolding pushed fits
+push-again g xs h t e =
+    push-holds (pushed g xs .group) xs
+    (fits-where (pushed g xs .group) xs (raised g xs) (at-most-refl (raised g xs)) (raised-shows g xs h t) (at-most-true (raised g xs) (g .caps) (push-held g xs e)))
