@@ -29,10 +29,8 @@ use Rattle.group.specs.Record.{groupChecks, withLevels, withCaps, erased}
 use Rattle.writing.specs.Calls.{Program, writeChecks, pushArray, raised, fits, pushChecks, pushed, unpushed, writeOf}
 use Rattle.group.specs.Calls.{cellChecks, wearChecks, leakOf, wearOf, eraseOf}
 use Rattle.group.proofs.Levels.{at-most-refl, at-most-true, rises-down, leaked-below}
-use Rattle.writing.proofs.Orders.{order-shows}
-use Rattle.group.proofs.Checks.{checked-size}
-use Rattle.group.proofs.Groups.{IsGroup, leak-group, wear-group, erase-group}
-use Rattle.writing.proofs.Writes.{push-held, pushes-few, group-pushed, write-group}
+use Rattle.group.proofs.Groups.{by-number, IsGroup, leak-group, wear-group, erase-group}
+use Rattle.writing.proofs.Writes.{push-held, pushes-few, write-group, raised-shows}
 use Rattle.push_list.specs.Calls.{intoChecks, writeIntoOf}
 use Rattle.push_list.proofs.Written.{into-group}
 use Rattle.sensing.proofs.Sensed.{sensed-order}
@@ -40,15 +38,12 @@ use Rattle.plain_machine.specs.declared.Kind.{Kind}
 use Rattle.plain_machine.specs.declared.Kind.the-variants.{Write, WriteInto, Store, Scrub, Leak, Wear, Erase, Read}
 use Rattle.plain_machine.specs.declared.Call.{Call}
 use Rattle.engine.specs.Calls.{sensedOrder, placeRead, readChecks, readingOf, readOf, storeChecks, storeOf}
-use Rattle.engine.specs.Scrub.{Step, quiet, programmedStep, wordFound, scrubChecks, scrubOf, afterRead}
+use Rattle.engine.specs.Scrub.{Step, quiet, programmedStep, wordFound, scrubOf, afterRead}
+use Rattle.engine.proofs.Holds.{store-group}
+use Rattle.engine.proofs.Scrubs.{scrub-group}
 use Rattle.plain_machine.specs.Machine.{writes, targetBy, target, checksBy, checks, earlierBy, earlierChecks, afterProgram, afterChange, applyBy, applyOf}
 
 -- ---- answers
-
--- what holds of the result where the number is 0, and of the zeros, holds of what the number picks
-pub by-number : {A : Type 0} (P : A → Type 0) (k : ℕ) (result zeros : A) → (k ≡ 0 → P result) → P zeros → P (ifDone k result zeros)
-by-number P zero result zeros p q = p refl
-by-number P (suc k) result zeros p q = q
 
 -- what a call carries where all its checks hold
 abbrev readStep : Group → Reading → Step
@@ -125,15 +120,10 @@ same-group g c = rw (apply-number g c, apply-value g c) (go (numberOf (checks g 
 -- ---- a group stays a group
 
 group-by : (g : Group) (o : Order) (k : Kind) → IsGroup g → IsGroup (applyBy g o k .value .group)
-unfolding storeOf scrubOf answer
 group-by g o Write h = write-group g o h
 group-by g o (WriteInto room) h = into-group g o room h
-group-by g o (Store s) h =
-    by-number (λ (p : Program). IsGroup (p .group)) (numberOf (storeChecks g s)) _ (unpushed g)
-    (λ e. group-pushed g _ h (check-held _ _ _ (all-held _ (groupChecks g) e .1) .1)) h
-group-by g o Scrub h =
-    by-number (λ (s : Step). IsGroup (s .group)) (numberOf (scrubChecks g)) _ (quiet g)
-    (λ e. group-pushed g _ h (all-held _ (readChecks g) e .1)) h
+group-by g o (Store s) h = store-group g s h
+group-by g o Scrub h = scrub-group g h
 group-by g o (Leak c d) h = leak-group g c d h
 group-by g o (Wear c cap) h = wear-group g c cap h
 group-by g o Erase h = erase-group g h
@@ -205,10 +195,7 @@ apply-few g c =
 -- past the earlier checks, a write shows its target
 pub target-shows : (g : Group) (c : Call) → IsGroup g → writes (c .kind) ≡ true → numberOf (earlierChecks g c) ≡ 0
     → Shows 1 (singles (target g c)) (raised g (target g c))
-unfolding raised
-target-shows g c h w e =
-    order-shows 1 (g .n) (target g c) (g .levels) (target-order g (c .target) (c .kind) w e)
-    (omega (arith, checked-size g (h .passes) .1, h .levels))
+target-shows g c h w e = raised-shows g (target g c) h (target-order g (c .target) (c .kind) w e)
 
 -- ---- pulses are the sum of the rises
 
