@@ -2,22 +2,20 @@
 -- written from levels n down to 1 along u.
 -- Assumes nothing.
 --
---   cost-is-rise         the sentence
---   first-cell-rise      the same of v's first cell, which has the top level then
---   stairs h n u         levels h, h - 1, .. along u, in twelve places; with h = n they are n down to 1: `stairs-fall`
+--   cost-is-rise    the sentence
+--   stairs-fall     there are such levels
 use Prim.Native.Nat.{ℕ, zero, suc, _+_, _-_, _≤_, _<_}
 use native.Mathlib.Nat.{not-suc-le-zero, le-of-suc-le-suc, le-antisymm}
 use native.Mathlib.Omega.{arith}
 use mathlib.Core.Path.{_≡_, sym, ap, _∙_}
 use mathlib.Core.Bool.{true}
-use mathlib.Core.List.{List, [], _∷_, _++_}
-use lib.ListN.{length, getD, replicate, length-append, length-replicate, List·getD-append}
-use lib.IntN.{pos, subℕ, _+ℤ_, pos-+ℤ-pos}
+use mathlib.Core.List.{List, [], _∷_}
+use lib.ListN.{length, getD}
+use lib.IntN.{pos, subℕ}
 use lib.Signed.{_≤ℤ_}
 use Rattle.order.specs.Cells.{tabulate, placeOf, isOrder}
 use Rattle.order.proofs.Cells.{IsOrder, order-true, order-count, order-range}
 use Rattle.order.proofs.Tabulate.{length-tabulate, getD-tabulate}
-use Rattle.order.proofs.Inverse.{own-place}
 use Rattle.cost.specs.Cost.{displacement, cost}
 use Rattle.cost.proofs.Signs.{≤ℤ-antisym, sub-rise, sub-most}
 use Rattle.cost.proofs.Costs.{cost-largest}
@@ -26,13 +24,9 @@ use Rattle.writing.specs.PushUp.{singles, top}
 use Rattle.group.proofs.Levels.{at-most-level}
 use Rattle.writing.proofs.Raise.{raise-above}
 use Rattle.writing.proofs.Orders.{CellsOf, order-cells}
+use Rattle.writing.proofs.Stairs.{stairs, stairs-at}
 use Rattle.rivals.specs.Rise.{topLevel, written, Staircase}
 use Rattle.rivals.proofs.Climb.{listed-range, Peak, raise-peak, cell-stands, first-highest}
-
--- ---- such levels
-
-unfoldable pub stairs : ℕ → ℕ → List ℕ → List ℕ
-stairs h n u = tabulate n (λ k. suc h - placeOf u (suc k)) ++ replicate (12 - n) 0
 
 -- ---- the top level
 
@@ -80,26 +74,9 @@ module _ (n : ℕ) (u : List ℕ) (p : isOrder n u ≡ true) where
       let t = cell-stands n u p c low high in
       omega (arith, ap (level ls) (t .there), s .along (t .index) (omega (arith, t .inside, o .size)), t .place, t .inside, o .size)
 
-  pub length-stairs : (h : ℕ) → n ≤ 12 → length (stairs h n u) ≡ 12
-  unfolding stairs
-  length-stairs h m =
-      let f : ℕ → ℕ = λ k. suc h - placeOf u (suc k) in
-      length-append (tabulate n f) (replicate (12 - n) 0) ∙ omega (arith, length-tabulate n f, length-replicate {A = ℕ} (12 - n) 0)
-
-  pub stairs-at : (h k : ℕ) → k < n → level (stairs h n u) (getD u k 0) ≡ h - k
-  unfolding stairs level
-  stairs-at h k l =
-      let f : ℕ → ℕ = λ k. suc h - placeOf u (suc k) in
-      let r = order-range n u o k l in
-      let x = getD u k 0 in
-      let e : suc (x - 1) ≡ x = omega arith in
-      List·getD-append (tabulate n f) (replicate (12 - n) 0) 0 (x - 1) (omega (arith, length-tabulate n f))
-      ∙ getD-tabulate n f (x - 1) 0 (omega arith)
-      ∙ ap (λ (c : ℕ). suc h - placeOf u c) e ∙ omega (arith, own-place n u o k l)
-
   -- there are levels n down to 1
   pub stairs-fall : Staircase n u (stairs n n u)
-  stairs-fall = record { along = λ k l. stairs-at n k l }
+  stairs-fall = record { along = λ k l. stairs-at n u p n k l }
 
 -- ---- the theorem
 
@@ -164,7 +141,3 @@ module _ (n : ℕ) (u v ls : List ℕ) (low : 1 ≤ n) (p : isOrder n u ≡ true
   -- the cost is the rise of the top level
   pub cost-is-rise : cost n u v ≡ subℕ (topLevel n (written v ls)) (topLevel n ls)
   cost-is-rise = rw (top-before, top-after) (cost-is ∙ sym (sub-rise h n (h - n) (omega (arith, not-lower))))
-
-  -- the same with the levels named: v's first cell comes to n and the cost
-  pub first-cell-rise : pos (level (written v ls) (getD v 0 0)) ≡ pos n +ℤ cost n u v
-  first-cell-rise = rw cost-is (ap pos (omega (arith, not-lower)) ∙ sym (pos-+ℤ-pos n (h - n)))

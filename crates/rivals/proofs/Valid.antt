@@ -2,58 +2,48 @@
 -- done, whatever its order (into a lent list where that has n - 1 places, and is refused 10 where it has fewer), and a first store, whatever its
 -- symbol (there is one: `some-symbol`), and a scrub that comes next; and worn is given too.
 -- Assumes nothing.
-use Prim.Native.Nat.{ℕ, zero, suc, _+_, _-_, _≤_, _<_}
-use mathlib.Core.Path.{_≡_, refl, ap, _∙_}
+use Prim.Native.Nat.{ℕ, zero, suc, _-_, _<_, _≤_}
+use mathlib.Core.Path.{_≡_, refl, _∙_}
 use mathlib.Core.Logic.{_≢_, _⊎_, inl, inr, ⊎-elim}
-use mathlib.Core.Bool.{Bool, true, false, cond}
+use mathlib.Core.Bool.{Bool, true, false}
 use mathlib.Core.List.{List, [], _∷_, _++_}
 use native.Mathlib.Nat.{zero-mod}
 use native.Mathlib.Omega.{arith}
-use lib.Dec.{lit<, ltb}
-use lib.ListN.{length, getD, replicate, length-replicate}
-use borrow.Author.Tests.{lt-ltb, le-ltb, le-leb, lt-leb}
+use lib.Dec.{lit<}
+use lib.ListN.{length, replicate, length-replicate}
+use borrow.Author.Tests.{lt-ltb, le-leb, lt-leb}
 use Rattle.code.specs.Calls.{wordOf}
 use Rattle.order.specs.declared.Order.{Order}
 use Rattle.order.specs.declared.Refusal.{Refusal}
-use Rattle.order.specs.declared.Refusal.the-variants.{NoOrder, Blank, Lost, ListShort}
-use Rattle.order.specs.Refusals.{refusalNumber, numberOf, ifDone, answer, isSize}
-use Rattle.order.specs.Cells.{eachOnce, isOrder, allZero, isListing, tabulate, placeOf}
+use Rattle.order.specs.declared.Refusal.the-variants.{NoOrder, ListShort}
+use Rattle.order.specs.Refusals.{refusalNumber, numberOf, answer, isSize}
+use Rattle.order.specs.Cells.{eachOnce, isOrder, allZero, isListing}
 use Rattle.order.specs.Order.{cellNumbers, listed, isOrderOf, orderRecord, noOrder}
-use Rattle.order.proofs.Cells.{order-true, order-range}
+use Rattle.order.proofs.Cells.{order-true}
 use Rattle.order.proofs.Refusals.{all-hold, check-holds, check-fails, later-decide, size-true}
 use Rattle.order.proofs.Check.{order-parts}
-use Rattle.order.proofs.Inverse.{own-place}
 use Rattle.order.proofs.Records.{record-order}
-use Rattle.order.proofs.Tabulate.{getD-tabulate}
 use Rattle.coordinates.specs.Coordinates.{orderFrom, limit, inRange}
 use Rattle.coordinates.specs.Calls.{coordinateAt}
 use Rattle.coordinates.proofs.RoundTrip.{order-of-any}
 use Rattle.decoder.specs.Decoding.{modulus, weight, leaves}
-use Rattle.decoder.proofs.Decoding.{reads-clean}
 use Rattle.code.specs.Words.{K, wordAt}
 use Rattle.code.proofs.Laws.{Word, of-word, number-below}
-use Rattle.code.proofs.Codewords.{symbol-codeword}
 use Rattle.group.specs.declared.Group.{Group}
-use Rattle.group.specs.Levels.{level, put, AtMost, empty, more, atMost}
-use Rattle.writing.specs.PushUp.{singles, top, floorOver, Shows, lift, raise}
+use Rattle.group.specs.Levels.{level, put, atMost}
+use Rattle.writing.specs.PushUp.{singles, top, floorOver, lift, raise}
 use Rattle.group.specs.Record.{allAtMost, isRow, groupChecks, opened}
-use Rattle.writing.specs.Calls.{raised, fits, pushChecks, pushed, writeOf}
+use Rattle.writing.specs.Calls.{raised, fits, pushChecks, writeOf}
 use Rattle.group.specs.Calls.{wearOf}
-use Rattle.group.proofs.Levels.{at-most-refl, at-most-true}
 use Rattle.writing.proofs.Raise.{Each}
-use Rattle.group.proofs.Checks.{checked-size}
-use Rattle.sensing.proofs.Sensed.{sensed-back}
-use Rattle.writing.proofs.Orders.{Falling, falling-shows, order-shows}
-use Rattle.group.proofs.Groups.{IsGroup}
-use Rattle.writing.proofs.Writes.{push-held, push-holds, group-pushed, fits-where}
+use Rattle.writing.proofs.Stairs.{stairs, zeros-under, length-stairs, stairs-fit}
+use Rattle.engine.proofs.Scrubs.{store-scrubs}
 use Rattle.plain_machine.specs.declared.Kind.{Kind}
 use Rattle.plain_machine.specs.declared.Kind.the-variants.{Write, WriteInto, Store, Scrub, Leak, Wear, Erase, Read}
 use Rattle.plain_machine.specs.declared.Call.{Call}
-use Rattle.engine.specs.Calls.{sensedOrder, placeRead}
-use Rattle.engine.specs.Scrub.{Step, quiet, wordFound, scrubChecks}
 use Rattle.plain_machine.specs.Machine.{applyOf, checksBy, checks}
 use Rattle.rivals.specs.Rivals.{after}
-use Rattle.plain_machine.proofs.Machine.{accept, apply-number, apply-value, done-pushes}
+use Rattle.plain_machine.proofs.Machine.{apply-number, done-pushes}
 use Rattle.rivals.proofs.Demand3.{group-after, opened-group}
 
 -- ---- the numbers 1 and 2 never come
@@ -98,110 +88,11 @@ module _ (n : ℕ) (size : isSize n ≡ true) (cs : List Call) where
 
 -- ---- every order fits an opened group
 
-zeros-under : (m : ℕ) (f : ℕ → ℕ) → AtMost (replicate m 0) (tabulate m f)
-zeros-under zero f = empty
-zeros-under (suc m) f = let low : 0 ≤ f 0 = omega arith in more low (zeros-under m (λ k. f (suc k)))
-
--- n numbers up to 4,095, and m zeros
-under-caps : (n m all : ℕ) (f : ℕ → ℕ) → all ≡ n + m → ((k : ℕ) → k < n → f k ≤ 4095) → ((k : ℕ) → n ≤ k → f k ≡ 0)
-    → AtMost (tabulate all f) (replicate n 4095 ++ replicate m 0)
-under-caps zero zero zero f e h z = empty
-under-caps zero zero (suc all) f e h z = absurd (omega arith)
-under-caps zero (suc m) zero f e h z = absurd (omega arith)
-under-caps zero (suc m) (suc all) f e h z =
-    let none : f 0 ≤ 0 = omega (arith, z 0 (omega arith)) in
-    more none
-    (under-caps zero m all (λ k. f (suc k)) (omega arith) (λ k l. absurd (omega arith)) (λ k l. z (suc k) (omega arith)))
-under-caps (suc n) m zero f e h z = absurd (omega arith)
-under-caps (suc n) m (suc all) f e h z =
-    more (h 0 (omega arith))
-    (under-caps n m all (λ k. f (suc k)) (omega arith) (λ k l. h (suc k) (omega arith)) (λ k l. z (suc k) (omega arith)))
-
-module _ (n : ℕ) (size : isSize n ≡ true) (xs : List ℕ) (t : isOrder n xs ≡ true) where
-  -- each cell as high as there are cells below it in the order: the order shows
-  height : ℕ → ℕ
-  height k = cond (ltb k n) (n - placeOf xs (suc k)) 0
-
-  stair : List ℕ
-  stair = tabulate 12 height
-
-  stair-level : (i : ℕ) → i < n → level stair (getD xs i 0) ≡ n - suc i
-  unfolding level stair height
-  stair-level i l =
-      let o = order-true n xs t in
-      let range = order-range n xs o i l in
-      let high = size-true n size .1 in
-      let c = getD xs i 0 in
-      let back : suc (c - 1) ≡ c = omega arith in
-      getD-tabulate 12 height (c - 1) 0 (omega arith) ∙ rw (lt-ltb (c - 1) n (omega arith), back, own-place n xs o i l)
-
-  stair-shows : Shows 1 (singles xs) stair
-  unfolding Falling
-  stair-shows =
-      falling-shows 1 xs stair
-      (λ i l. let m : suc i < n = omega (arith, order-true n xs t .size) in omega (arith, stair-level i (omega arith), stair-level (suc i) m))
-
-  stair-low : (k : ℕ) → k < n → height k ≤ 4095
-  unfolding height
-  stair-low k l = rw (lt-ltb k n l) (omega (arith, size-true n size .1))
-
-  stair-past : (k : ℕ) → n ≤ k → height k ≡ 0
-  unfolding height
-  stair-past k l = rw (le-ltb k n l)
-
-  opened-passes : numberOf (pushChecks (opened n) xs) ≡ 0
-  unfolding stair
-  opened-passes =
-      push-holds (opened n) xs
-      (fits-where (opened n) xs stair (zeros-under 12 height) stair-shows
-      (under-caps n (12 - n) 12 height (omega (arith, size-true n size .1)) stair-low stair-past))
-
--- ---- a group that was stored to can be scrubbed
-
-module _ (g : Group) (h : IsGroup g) (s : ℕ) (l : s < K (g .n)) (f : numberOf (pushChecks g (wordOf (g .n) s)) ≡ 0) where
-  abbrev word : List ℕ
-  word = wordOf (g .n) s
-
-  abbrev stored : Group
-  stored = pushed g word .group
-
-  word-order : isOrder (g .n) word ≡ true
-  unfolding wordOf
-  word-order = order-of-any (coordinateAt (wordAt (g .n) s)) (g .n)
-
-  -- it reads the codeword
-  stored-shows : Shows 1 (singles word) (stored .levels)
-  unfolding pushed raised
-  stored-shows = order-shows 1 (g .n) word (g .levels) word-order (omega (arith, checked-size g (h .passes), h .levels))
-
-  stored-sensed : sensedOrder stored ≡ word
-  unfolding pushed
-  stored-sensed = sensed-back (g .n) word (stored .levels) word-order stored-shows
-
-  stored-clean : placeRead stored ≡ 0
-  unfolding pushed wordOf
-  stored-clean =
-      let pos : 0 < g .n = omega (arith, checked-size g (h .passes)) in
-      rw stored-sensed (reads-clean (g .n) word word-order pos .1 (symbol-codeword (g .n) pos s l))
-
-  -- which is within the caps already
-  found-passes : numberOf (pushChecks stored (wordFound stored)) ≡ 0
-  unfolding pushed fits
-  found-passes =
-      rw (stored-clean, stored-sensed)
-      (push-holds stored word
-      (fits-where stored word (stored .levels) (at-most-refl (stored .levels)) stored-shows (at-most-true (raised g word) (g .caps) (push-held g word f))))
-
-  stored-passes : numberOf (groupChecks stored) ≡ 0
-  stored-passes = group-pushed g word h f .passes
-
-  scrub-done : numberOf (scrubChecks stored) ≡ 0
-  unfolding pushed
-  scrub-done =
-      later-decide _ (groupChecks stored) stored-passes
-      ∙ check-holds Blank _ refl
-      ∙ check-holds Lost (pushChecks stored (wordFound stored)) (lt-ltb (placeRead stored) (g .n) (omega (arith, stored-clean, checked-size g (h .passes))))
-      ∙ found-passes
+opened-passes : (n : ℕ) → isSize n ≡ true → (xs : List ℕ) → isOrder n xs ≡ true → numberOf (pushChecks (opened n) xs) ≡ 0
+opened-passes n size xs t =
+    let (low, high) = size-true n size in
+    let h = n - 1 in
+    stairs-fit n xs t h (opened n) refl (rw (length-stairs n xs t h high) at (zeros-under (stairs h n xs))) (omega arith) (omega arith)
 
 -- ---- first calls
 
@@ -282,12 +173,8 @@ module _ (n : ℕ) (size : isSize n ≡ true) where
 
     -- and a scrub that comes next
     pub next-scrub : applyOf (after applyOf (opened n) (storing s ∷ [])) scrubbing .number ≡ 0
-    unfolding after
-    next-scrub =
-        let g = pushed (opened n) (wordOf n s) .group in
-        let same : after applyOf (opened n) (storing s ∷ []) ≡ g = ap (λ (v : Step). v .group) (apply-value (opened n) (storing s)) ∙ ap (λ (k : ℕ). ifDone k (accept (opened n) (storing s)) (quiet (opened n)) .group) store-checks in
-        rw same
-        (apply-number g scrubbing ∙ scrub-done (opened n) (opened-group n size) s l word-passes)
+    unfolding after applyOf
+    next-scrub = store-scrubs (opened n) s (opened-group n size) first-store
 
 -- ---- and worn is given: cell 1 capped at 1 can't stand above cell 2, which stands above cell 3
 

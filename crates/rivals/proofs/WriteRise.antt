@@ -1,17 +1,17 @@
 -- The theorem of CostRise over the answers of `cost` and `write`: the cost of u to v is the rise of the top level when a group with levels
 -- n down to 1 along u accepts v. And such a group, with all caps at 4,095, accepts every order v of its cells.
 -- Assumes nothing.
-use Prim.Native.Nat.{ℕ, zero, suc, _+_, _-_, _≤_, _<_}
+use Prim.Native.Nat.{ℕ, suc, _+_, _-_}
 use native.Mathlib.Omega.{arith}
-use mathlib.Core.Path.{_≡_, sym, ap, _∙_}
+use mathlib.Core.Path.{_≡_, refl, sym, ap, _∙_}
 use mathlib.Core.Bool.{true}
-use mathlib.Core.List.{List, _++_}
+use mathlib.Core.List.{List}
 use lib.ListN.{length, replicate}
 use lib.IntN.{subℕ}
 use Rattle.order.specs.declared.Order.{Order}
 use Rattle.order.specs.declared.Refusal.the-variants.{NoOrder}
 use Rattle.order.specs.Refusals.{numberOf, answer}
-use Rattle.order.specs.Cells.{tabulate, placeOf, isOrder}
+use Rattle.order.specs.Cells.{placeOf, isOrder}
 use Rattle.order.specs.Order.{listed, isOrderOf, pairChecks}
 use Rattle.order.proofs.Cells.{order-true}
 use Rattle.order.proofs.Check.{order-parts}
@@ -21,18 +21,16 @@ use Rattle.order.proofs.Pairs.{same-length, passed-second, pair-size, first-ord
 use Rattle.cost.specs.Cost.{cost, costOf}
 use Rattle.cost.proofs.Costs.{rank-high}
 use Rattle.group.specs.declared.Group.{Group}
-use Rattle.group.specs.Levels.{AtMost, more}
-use Rattle.writing.specs.PushUp.{singles, Shows}
-use Rattle.group.specs.Record.{groupChecks}
+use Rattle.group.specs.Levels.{AtMost}
+use Rattle.group.specs.Record.{groupChecks, opened, programmed}
 use Rattle.writing.specs.Calls.{raised, pushed, writeOf}
-use Rattle.group.proofs.Levels.{at-most-refl, at-most-trans}
 use Rattle.group.proofs.Rows.{row-below, full-row}
 use Rattle.group.proofs.Checks.{rules-hold, checked-size}
-use Rattle.writing.proofs.Orders.{Falling, falling-shows}
-use Rattle.writing.proofs.Writes.{push-holds, write-accepted, fits-where}
+use Rattle.writing.proofs.Stairs.{stairs, at-most-tabulate, length-stairs, stairs-low, stairs-fit}
+use Rattle.writing.proofs.Writes.{write-accepted}
 use Rattle.rivals.proofs.Climb.{cell-stands}
 use Rattle.rivals.specs.Rise.{topLevel, written, Staircase}
-use Rattle.rivals.proofs.CostRise.{stairs, length-stairs, stairs-at, stairs-fall, cost-is-rise}
+use Rattle.rivals.proofs.CostRise.{stairs-fall, cost-is-rise}
 
 -- ---- over the answers
 
@@ -65,44 +63,14 @@ write-rise g u v w s d a =
 
 -- levels n down to 1 along u, and full caps
 unfoldable pub stairGroup : Order → Group
-stairGroup u =
-    record {
-      n = u .len;
-      levels = stairs (u .len) (u .len) (listed u);
-      caps = replicate (u .len) 4095 ++ replicate (12 - u .len) 0;
-      written = true;
-    }
+stairGroup u = programmed (opened (u .len)) (stairs (u .len) (u .len) (listed u))
 
-at-most-tabulate : (n : ℕ) (f g : ℕ → ℕ) (zs : List ℕ) → ((k : ℕ) → k < n → f k ≤ g k) → AtMost (tabulate n f ++ zs) (tabulate n g ++ zs)
-at-most-tabulate zero f g zs h = at-most-refl zs
-at-most-tabulate (suc n) f g zs h = more (h 0 (omega arith)) (at-most-tabulate n (λ k. f (suc k)) (λ k. g (suc k)) zs (λ k l. h (suc k) (omega arith)))
-
-at-most-full : (n m : ℕ) (f : ℕ → ℕ) (zs : List ℕ) → ((k : ℕ) → k < n → f k ≤ m) → AtMost (tabulate n f ++ zs) (replicate n m ++ zs)
-at-most-full zero m f zs h = at-most-refl zs
-at-most-full (suc n) m f zs h = more (h 0 (omega arith)) (at-most-full n m (λ k. f (suc k)) zs (λ k l. h (suc k) (omega arith)))
-
-module _ (n : ℕ) (u v : List ℕ) (p : isOrder n u ≡ true) (q : isOrder n v ≡ true) (high : n ≤ 12) where
-  -- stairs to v from 2n are above those to u from n
-  stairs-above : AtMost (stairs n n u) (stairs (n + n) n v)
-  unfolding stairs placeOf
-  stairs-above =
-      at-most-tabulate n _ _ (replicate (12 - n) 0)
-      (λ k l. omega (arith, cell-stands n u p (suc k) (omega arith) l .place, rank-high n v (order-true n v q) k))
-
-  stairs-low : AtMost (stairs (n + n) n v) (replicate n 4095 ++ replicate (12 - n) 0)
-  unfolding stairs
-  stairs-low = at-most-full n 4095 _ (replicate (12 - n) 0) (λ k l. omega arith)
-
-  start-low : AtMost (stairs n n u) (replicate n 4095 ++ replicate (12 - n) 0)
-  start-low = at-most-trans stairs-above stairs-low
-
-  stairs-show : Shows 1 (singles v) (stairs (n + n) n v)
-  unfolding Falling
-  stairs-show =
-      falling-shows 1 v (stairs (n + n) n v)
-      (λ i l.
-      let m : suc i < n = omega (arith, order-true n v q .size) in
-      omega (arith, stairs-at n v q (n + n) (suc i) m, stairs-at n v q (n + n) i (omega arith)))
+-- stairs to v from 2n are above those to u from n
+stairs-above : (n : ℕ) (u v : List ℕ) → isOrder n u ≡ true → isOrder n v ≡ true → AtMost (stairs n n u) (stairs (n + n) n v)
+unfolding stairs placeOf
+stairs-above n u v p q =
+    at-most-tabulate n _ _ (replicate (12 - n) 0)
+    (λ k l. omega (arith, cell-stands n u p (suc k) (omega arith) l .place, rank-high n v (order-true n v q) k))
 
 -- it accepts v
 pub stairs-written : (u v : Order) → costOf u v .number ≡ 0 → writeOf (stairGroup u) v .number ≡ 0
@@ -113,14 +81,11 @@ stairs-written u v d =
     let size = pair-size u v c in
     let p = first-order u v c in
     let q = second-order u v c in
-    let caps : List ℕ = replicate n 4095 ++ replicate (12 - n) 0 in
-    let start = row-below 4095 n (start-low n (listed u) (listed v) p q (size .1)) (full-row 4095 n) in
+    let start = row-below 4095 n (stairs-low n (listed u) p n (omega arith)) (full-row 4095 n) in
     let target : isOrderOf n v ≡ true = ap (λ (k : ℕ). isOrderOf k v) (sym (same-length u v c)) ∙ passed v (passed-second u v c) .2 in
     later-decide _ (groupChecks (stairGroup u)) (rules-hold (stairGroup u) (record { small = size .0; large = size .1; levels = start; caps = full-row 4095 n }))
     ∙ check-holds NoOrder _ target
-    ∙ push-holds (stairGroup u) (listed v)
-    (fits-where (stairGroup u) (listed v) (stairs (n + n) n (listed v)) (stairs-above n (listed u) (listed v) p q (size .1)) (stairs-show n (listed u) (listed v) p q (size .1))
-    (stairs-low n (listed u) (listed v) p q (size .1)))
+    ∙ stairs-fit n (listed v) q (n + n) (stairGroup u) refl (stairs-above n (listed u) (listed v) p q) (omega arith) (omega arith)
 
 -- so wherever `cost` answers, its answer is such a rise
 pub cost-answer-is-rise : (u v : Order) → costOf u v .number ≡ 0
