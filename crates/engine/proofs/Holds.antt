@@ -39,7 +39,7 @@ use Rattle.group.proofs.Groups.{IsGroup, told-accepted}
 use Rattle.writing.proofs.Writes.{group-pushed, push-group}
 use Rattle.sensing.proofs.Written.{raised-sensed}
 use Rattle.engine.specs.Calls.{sensedOrder, placeRead, readChecks, readOf, storeOf, alikeOf}
-use Rattle.engine.proofs.Answers.{read-number, read-done, read-decoded, word-order, alike-done}
+use Rattle.engine.proofs.Answers.{mark-holds, read-number, read-done, read-decoded, word-order, alike-done}
 
 -- ---- a codeword, or one with two neighbours exchanged
 
@@ -49,7 +49,7 @@ module _ (h : Group) (d : numberOf (groupChecks h) ≡ 0) (w : h .written ≡ tr
   unfolding wordOf
   exchanged-reads k l e =
       let (low, high) = checked-size h d in
-      sym (read-decoded h d w) ∙ ap (λ (xs : List ℕ). decodeOf (orderRecord xs)) e ∙ symbol-reads (h .n) s low high below k l
+      sym (read-decoded h (mark-holds h d w)) ∙ ap (λ (xs : List ℕ). decodeOf (orderRecord xs)) e ∙ symbol-reads (h .n) s low high below k l
 
   pub clean-reads : sensedOrder h ≡ wordOf (h .n) s → readOf h ≡ record { number = 0; value = record { symbol = s; verdict = some Clean } }
   clean-reads e = exchanged-reads 0 (omega (arith, checked-size h d .0)) e

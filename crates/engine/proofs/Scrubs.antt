@@ -43,9 +43,9 @@ use Rattle.sensing.proofs.Sensed.{sensed-order}
 use Rattle.group.proofs.Groups.{IsGroup}
 use Rattle.engine.specs.declared.ReadAnswer.{ReadAnswer}
 use Rattle.engine.specs.declared.ReadAnswer.the-variants as read
-use Rattle.engine.specs.Calls.{sensedOrder, placeRead, readChecks, readingOf, toldRead, readOf, storeOf}
+use Rattle.engine.specs.Calls.{sensedOrder, placeRead, markedChecks, readChecks, readingOf, toldRead, readOf, storeOf}
 use Rattle.engine.specs.Scrub.{Step, quiet, programmedStep, wordFound, scrubChecks, scrubOf, afterRead}
-use Rattle.engine.proofs.Answers.{read-number, read-done, read-decoded, sensed-recorded, write-listed, word-order, store-written}
+use Rattle.engine.proofs.Answers.{mark-held, read-number, read-done, read-decoded, sensed-recorded, write-listed, word-order, store-written}
 use Rattle.engine.proofs.Holds.{store-accepted, store-holds, store-reads}
 
 -- ---- the codeword found, and the symbol that stands for it
@@ -110,9 +110,9 @@ module _ (g : Group) where
     scrub-stored = rw (store-found g d) scrub-written
 
 -- by the order sensed, put right, and the answer of the read
-module _ (g : Group) (d : numberOf (groupChecks g) ≡ 0) (w : g .written ≡ true) (f : CorrectedAnswer) (e : toldCorrected f ≡ correctedOf (orderRecord (sensedOrder g))) where
+module _ (g : Group) (m : numberOf (markedChecks g) ≡ 0) (f : CorrectedAnswer) (e : toldCorrected f ≡ correctedOf (orderRecord (sensedOrder g))) where
   read-corrected : toldDecode (f .answer) ≡ readOf g
-  read-corrected = ap readingTold e ∙ decode-part (orderRecord (sensedOrder g)) ∙ read-decoded g d w
+  read-corrected = ap readingTold e ∙ decode-part (orderRecord (sensedOrder g)) ∙ read-decoded g m
 
   module _ (a : ReadAnswer) (q : toldRead a ≡ toldDecode (f .answer)) where
     pub scrub-lost : {r : Refusal} → a ≡ read.Refused r → afterRead g (toldRead a) ≡ scrubOf g
@@ -132,7 +132,7 @@ module _ (g : Group) (d : numberOf (groupChecks g) ≡ 0) (w : g .written ≡ tr
       word =
           let o = orderRecord (sensedOrder g) in
           let number : correctedOf o .number ≡ 0 = ap (λ (t : Told WordRead). t .number) (sym e) ∙ ap (λ (t : Told Reading). t .number) (read-corrected ∙ answered) in
-          let (len, list) = sensed-recorded g d in
+          let (len, list) = sensed-recorded g (mark-held g m .0) in
           ap (λ (t : Told WordRead). t .value .word) e ∙ corrected-word o number ∙ rw (list, len)
 
       pub scrub-found : {t : Told Program} → t ≡ writeOf g (f .word) → scrubbed g t s (some v) ≡ scrubOf g

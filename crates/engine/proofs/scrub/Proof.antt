@@ -1,17 +1,14 @@
 -- `engine::scrub` meets its contract.
 -- Assumes nothing.
 use borrow.Author.Needs.{needs}
-use borrow.Author.Tests.{not-true, not-false}
 use mathlib.Core.Path.{_≡_, sym, ap, _∙_}
 use Prim.Native.Nat.{ℕ}
-use Rattle.order.specs.declared.Refusal.the-variants.{Blank}
 use Rattle.order.specs.Order.{orderRecord}
 use Rattle.order.specs.Refusals.{outcomeNumber, numberOf, Told}
 use Rattle.order.proofs.Refusals.{accepted}
 use Rattle.code.specs.Calls.{Reading, toldCorrected, correctedOf}
-use Rattle.group.specs.Record.{groupChecks}
-use Rattle.engine.specs.Calls.{sensedOrder}
-use Rattle.engine.proofs.Answers.{sense-number, sense-record, read-refused, read-blank}
+use Rattle.engine.specs.Calls.{sensedOrder, markedChecks}
+use Rattle.engine.proofs.Answers.{marked-number, marked-record, read-refused}
 use Rattle.engine.proofs.Scrubs.{scrub-refused, scrub-lost, scrub-found}
 use Rattle.engine.proofs.scrub.Statement.{statement}
 use Rattle.engine.proofs.scrub.Tie as tie
@@ -19,8 +16,8 @@ use Rattle.engine.proofs.scrub.Tie as tie
 abbrev number : Told Reading → ℕ
 number t = t .number
 
-sense-requires : tie.Need-sense-requires
-sense-requires c κs = search needs
+marked-order-requires : tie.Need-marked-order-requires
+marked-order-requires c κs = search needs
 
 enum-told : tie.Need-enum-told
 enum-told c = search needs
@@ -34,32 +31,24 @@ unchanged-requires c κs = search needs
 returns : tie.Need-returns
 returns c =
     let told = c .before .enum-told2 .given in
-    let a = c .before .before .before .sense in
-    let e = sym (sense-number _ (a .result) (a .ensures)) ∙ ap outcomeNumber (told .1) in
+    let a = c .before .before .before .marked-order in
+    let e = sym (marked-number _ (a .result) (a .ensures)) ∙ ap outcomeNumber (told .1) in
     c .unchanged .ensures ∙ rw (told .1) (scrub-refused _ (told .0 .0) (sym (ap number (read-refused _ (told .0 .0) e))))
 
--- the record has passed
-passed : (c : tie.After-enum-told) → numberOf (groupChecks (c .before .before .before .args .g)) ≡ 0
-passed c = accepted (sense-number _ (c .before .before .sense .result) (c .before .before .sense .ensures)) (c .enum-told .given .1)
-
-unchanged-requires-2 : tie.Need-unchanged-requires-2
-unchanged-requires-2 c κs = search needs
-
-returns-2 : tie.Need-returns-2
-returns-2 c =
-    let b = c .before in
-    c .unchanged2 .ensures ∙ scrub-refused _ Blank (sym (ap number (read-blank _ (passed (b .before)) (not-true _ (b .if1 .taken)))))
+-- the record and its mark have passed
+passed : (c : tie.After-enum-told) → numberOf (markedChecks (c .before .before .before .args .g)) ≡ 0
+passed c = accepted (marked-number _ (c .before .before .marked-order .result) (c .before .before .marked-order .ensures)) (c .enum-told .given .1)
 
 corrected-requires : tie.Need-corrected-requires
 corrected-requires c κs = search needs
 
 -- the sensed order is put right
 found : (c : tie.After-corrected) →
-    toldCorrected (c .corrected .result) ≡ correctedOf (orderRecord (sensedOrder (c .before .before .before .before .before .before .args .g)))
+    toldCorrected (c .corrected .result) ≡ correctedOf (orderRecord (sensedOrder (c .before .before .before .before .before .args .g)))
 found c =
-    let e = c .before .before .before in
-    let a = e .before .before .sense in
-    c .corrected .ensures ∙ ap correctedOf (sense-record _ (a .result) (a .ensures) (passed e))
+    let e = c .before .before in
+    let a = e .before .before .marked-order in
+    c .corrected .ensures ∙ ap correctedOf (marked-record _ (a .result) (a .ensures) (passed e))
 
 as-read-requires : tie.Need-as-read-requires
 as-read-requires c κs = search needs
@@ -73,13 +62,12 @@ enum-told-3 c = search needs
 from-read-requires : tie.Need-from-read-requires
 from-read-requires c κs = search needs
 
-returns-3 : tie.Need-returns-3
-returns-3 c =
+returns-2 : tie.Need-returns-2
+returns-2 c =
     let a = c .before .before .before in
     let f = a .before in
-    let e = f .before .before in
     c .from-read .ensures
-    ∙ scrub-lost _ (passed (e .before)) (not-false _ (e .if1 .left)) (f .corrected .result) (found f) (a .as-read .result) (a .as-read .ensures) (c .before .enum-told3 .given .1)
+    ∙ scrub-lost _ (passed (f .before .before)) (f .corrected .result) (found f) (a .as-read .result) (a .as-read .ensures) (c .before .enum-told3 .given .1)
 
 write-requires : tie.Need-write-requires
 write-requires c κs = search needs
@@ -87,32 +75,29 @@ write-requires c κs = search needs
 rewritten-requires : tie.Need-rewritten-requires
 rewritten-requires c κs = search needs
 
-returns-4 : tie.Need-returns-4
-returns-4 c =
+returns-3 : tie.Need-returns-3
+returns-3 c =
     let b = c .before .before .before .before in
     let a = b .before .before in
     let f = a .before in
-    let e = f .before .before in
     c .rewritten .ensures
-    ∙ scrub-found _ (passed (e .before)) (not-false _ (e .if1 .left)) (f .corrected .result) (found f) (a .as-read .result) (a .as-read .ensures) (b .answer .given .1) (c .before .write .ensures)
+    ∙ scrub-found _ (passed (f .before .before)) (f .corrected .result) (found f) (a .as-read .result) (a .as-read .ensures) (b .answer .given .1) (c .before .write .ensures)
 
 pub scrub-spec : {M : Type 1} → statement M
 scrub-spec =
     tie.close
     (tie.spec
-    sense-requires
+    marked-order-requires
     enum-told
     enum-told-2
     unchanged-requires
     returns
-    unchanged-requires-2
-    returns-2
     corrected-requires
     as-read-requires
     enum-known-answer
     enum-told-3
     from-read-requires
-    returns-3
+    returns-2
     write-requires
     rewritten-requires
-    returns-4)
+    returns-3)
