@@ -6,19 +6,19 @@ use mathlib.Core.Bool.{Bool, true, false}
 use mathlib.Core.List.{List, [], _∷_, _++_}
 use native.Mathlib.Omega.{arith}
 use lib.Dec.{leb}
-use lib.ListN.{length, length-take}
+use lib.ListN.{length}
 use borrow.Author.Tests.{leb-true}
 use Rattle.order.specs.declared.Order.{Order}
 use Rattle.order.specs.declared.Refusal.{Refusal}
 use Rattle.order.specs.declared.Refusal.the-variants.{ListShort}
 use Rattle.order.specs.Refusals.{numberOf, Told, answer}
-use Rattle.order.specs.Order.{cellNumbers, listed, isOrderOf}
+use Rattle.order.specs.Order.{listed}
 use Rattle.order.proofs.Refusals.{check-held, all-held}
 use Rattle.order.proofs.Check.{order-parts}
 use Rattle.group.specs.declared.Group.{Group}
 use Rattle.writing.specs.declared.Push.{Push}
 use Rattle.group.specs.Record.{groupChecks}
-use Rattle.writing.specs.Calls.{Program, pushed, writeOf}
+use Rattle.writing.specs.Calls.{Program, writeOf}
 use Rattle.group.proofs.Checks.{checked-size}
 use Rattle.writing.proofs.Writes.{pushes-few}
 use Rattle.push_list.specs.Calls.{intoChecks, writeIntoOf, filled, listAfter}

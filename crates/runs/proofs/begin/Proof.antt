@@ -3,7 +3,6 @@
 use borrow.Author.Needs.{needs}
 use mathlib.Core.Path.{ap}
 use Rattle.group.specs.declared.Group.{Group}
-use Rattle.runs.specs.declared.Progress.{Progress}
 use Rattle.runs.proofs.begin.Statement.{statement}
 use Rattle.runs.proofs.begin.Tie as tie
 
