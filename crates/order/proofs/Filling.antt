@@ -33,12 +33,12 @@ pub filled-none : (xs : List ℕ) → Filled xs (replicate 12 (record { 0 = 0 })
 filled-none xs = record { left = omega arith; sofar = refl }
 
 module _ {xs : List ℕ} {held : List Cell} {i : ℕ} (f : Filled xs held i) where
-  pub filled-more : i < length xs → Filled xs (set held i (record { 0 = getD xs i 0 })) (i + 1)
+  pub filled-more : i < length xs → {k : ℕ} → k ≡ i → Filled xs (set held i (record { 0 = getD xs k 0 })) (i + 1)
   unfolding placesOf
-  filled-more l = record {
+  filled-more l e = record {
     left = omega arith;
     sofar =
-        rw (f .sofar, add-one i, ← getD-take (suc i) xs i 0 (omega arith))
+        rw (e, f .sofar, add-one i, ← getD-take (suc i) xs i 0 (omega arith))
         (tabulate-set 12 (placesOf (take i xs)) (placesOf (take (suc i) xs)) i
         (λ j q. ap (λ (n : ℕ). record { 0 = n }) (take-other i j xs q)));
   }

@@ -2,6 +2,7 @@
 -- Assumes nothing.
 use borrow.Author.Needs.{needs}
 use Prim.Native.Nat.{_-_}
+use native.Mathlib.Omega.{arith}
 use lib.ListN.{length}
 use Rattle.order.proofs.Filling.{Filled, filled-none, filled-more, filled-all}
 use Rattle.order.proofs.order_with.Statement.{statement}
@@ -29,7 +30,7 @@ loop-less : tie.Need-loop-less Inv-loop μ-loop
 loop-less c = search needs
 
 loop-again : tie.Need-loop-again Inv-loop μ-loop
-loop-again c = filled-more (c .before .before .loop .inv) (c .before .loop-test .taken)
+loop-again c = filled-more (c .before .before .loop .inv) (omega arith) (omega arith)
 
 returns : tie.Need-returns Inv-loop μ-loop
 returns c = filled-all (c .before .loop .inv) (c .loop-test .left)
