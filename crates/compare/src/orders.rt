@@ -18,10 +18,10 @@ use naive::words::next;
 use naive::words::word_cells;
 use order::Order;
 use order::Rank;
-use order::Ranks;
+use ranks::Ranks;
 
 fn ranks_of(o: Order) -> bool {
-    let a = order::ranks_of(o);
+    let a = ranks::ranks_of(o);
     let b = naive::orders::ranks_of(o);
     let found = a.outcome;
     let ranks = a.ranks;
@@ -42,7 +42,7 @@ fn from_ranks(o: Order) -> bool {
         len: o.len,
         ranks: held,
     };
-    same::order_answers(order::from_ranks(r), naive::orders::from_ranks(r))
+    same::order_answers(ranks::from_ranks(r), naive::orders::from_ranks(r))
 }
 
 // The cells of an order, with room for lists that are too long.

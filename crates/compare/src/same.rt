@@ -13,8 +13,8 @@ use naive::words::Reading;
 use order::Order;
 use order::OrderAnswer;
 use order::Outcome;
-use order::Ranks;
 use order::Refusal;
+use ranks::Ranks;
 use writing::Push;
 use writing::Written;
 

@@ -9,7 +9,8 @@ use lib.Signed.{_≤ℤ_}
 use Rattle.order.specs.declared.Order.{Order}
 use Rattle.order.specs.Refusals.{numberOf}
 use Rattle.order.specs.Cells.{placeOf}
-use Rattle.order.specs.Order.{listed, pairChecks, rankNumbers, ranksOf}
+use Rattle.order.specs.Order.{listed, pairChecks}
+use Rattle.ranks.specs.Ranks.{rankNumbers, ranksOf}
 use Rattle.order.proofs.Tabulate.{tabulate-ext}
 use Rattle.order.proofs.Pairs.{pair-size, first-order, second-order}
 use Rattle.cost.specs.Cost.{displacement, displacements, cost}

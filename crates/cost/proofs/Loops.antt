@@ -11,9 +11,9 @@ use lib.Dec.{ltb}
 use lib.ListN.{getD, set, replicate}
 use lib.IntN.{ℤ, pos, subℕ}
 use borrow.Author.Tests.{lt-ltb, le-ltb}
-use Rattle.order.specs.declared.Ranks.{Ranks}
+use Rattle.ranks.specs.declared.Ranks.{Ranks}
 use Rattle.order.specs.Cells.{tabulate}
-use Rattle.order.specs.Order.{rankNumbers}
+use Rattle.ranks.specs.Ranks.{rankNumbers}
 use Rattle.order.proofs.Cells.{lt-cases}
 use Rattle.order.proofs.Tabulate.{tabulate-ext, tabulate-set}
 use Rattle.cost.specs.Steps.{Low, displacementsByRank, LargestGrowth}

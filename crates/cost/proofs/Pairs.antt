@@ -6,18 +6,19 @@ use mathlib.Core.Path.{_≡_, sym, ap, _∙_}
 use mathlib.Core.Logic.{⊎-elim}
 use lib.ListN.{length, getD, List·getD-eq-default}
 use Rattle.order.specs.declared.Rank.{Rank}
-use Rattle.order.specs.declared.Ranks.{Ranks}
+use Rattle.ranks.specs.declared.Ranks.{Ranks}
 use Rattle.order.specs.declared.Order.{Order}
-use Rattle.order.specs.declared.RanksAnswer.{RanksAnswer}
+use Rattle.ranks.specs.declared.RanksAnswer.{RanksAnswer}
 use Rattle.order.specs.declared.Refusal.{Refusal}
 use Rattle.order.specs.declared.Outcome.{Outcome}
 use Rattle.order.specs.declared.Outcome.the-variants.{Done, Refused}
 use Rattle.order.specs.Refusals.{outcomeNumber, numberOf, Told, answer}
 use Rattle.order.specs.Cells.{placeOf}
-use Rattle.order.specs.Order.{listed, orderChecks, pairChecks, rankNumbers, ranksOf, noRanks, toldRanks, ranksOfOrder}
+use Rattle.order.specs.Order.{listed, orderChecks, pairChecks}
+use Rattle.ranks.specs.Ranks.{rankNumbers, ranksOf, noRanks, toldRanks, ranksOfOrder}
 use Rattle.order.proofs.Cells.{lt-cases}
 use Rattle.order.proofs.Refusals.{outcome-by-number, accepted, told-done}
-use Rattle.order.proofs.Numbers.{rank-at, length-ranks}
+use Rattle.ranks.proofs.RankNumbers.{rank-at, length-ranks}
 use Rattle.order.proofs.Tabulate.{length-tabulate, getD-tabulate}
 use Rattle.order.proofs.Records.{passed, passed-order}
 use Rattle.order.proofs.Pairs.{passed-first, passed-second, pair-size}

@@ -12,10 +12,11 @@ use mathlib.Core.List.{List}
 use lib.ListN.{getD}
 use lib.IntN.{ℤ, subℕ}
 use Rattle.order.specs.declared.Order.{Order}
-use Rattle.order.specs.declared.Ranks.{Ranks}
+use Rattle.ranks.specs.declared.Ranks.{Ranks}
 use Rattle.order.specs.Refusals.{outcomeNumber, Told, answer}
 use Rattle.order.specs.Cells.{tabulate}
-use Rattle.order.specs.Order.{pairChecks, ranksOf, rankNumbers, noRanks}
+use Rattle.order.specs.Order.{pairChecks}
+use Rattle.ranks.specs.Ranks.{ranksOf, rankNumbers, noRanks}
 use Rattle.cost.specs.declared.RanksPair.{RanksPair}
 
 abbrev pub toldPair : RanksPair → Told (Ranks × Ranks)

@@ -4,12 +4,12 @@
 use order::Order;
 use order::Outcome;
 use order::Rank;
-use order::Ranks;
 use order::Refusal;
+use ranks::Ranks;
 ghost use mathlib.Core.Path.{_≡_};
 ghost use Prim.Native.Nat.{_≤_};
 ghost use lib.IntN.{subℕ};
-ghost use Rattle.order.specs.Order.{rankNumbers, noRanks};
+ghost use Rattle.ranks.specs.Ranks.{rankNumbers, noRanks};
 ghost use Rattle.cost.specs.Cost.{toldDisplacements, toldCost, displacementsOf, costOf};
 ghost use Rattle.cost.specs.Steps.{toldPair, ranksOfPair, Low, displacementsByRank, LargestGrowth};
 
@@ -69,12 +69,12 @@ fn ranks_of_pair(u: Order, v: Order) -> RanksPair
     let Outcome::Done = outcome else {
         return no_pair(outcome);
     };
-    let from = order::ranks_of(u);
+    let from = ranks::ranks_of(u);
     let from_outcome = from.outcome;
     let Outcome::Done = from_outcome else {
         return no_pair(from_outcome);
     };
-    let to = order::ranks_of(v);
+    let to = ranks::ranks_of(v);
     let to_outcome = to.outcome;
     let Outcome::Done = to_outcome else {
         return no_pair(to_outcome);
@@ -92,10 +92,7 @@ fn ranks_of_pair(u: Order, v: Order) -> RanksPair
 fn no_pair(outcome: Outcome) -> RanksPair
     ensures { λ r. ⌜ r ≡ record { outcome = outcome; from = noRanks; to = noRanks } ⌝ }
 {
-    let none = Ranks {
-        len: 0,
-        ranks: [Rank(0); 12],
-    };
+    let none = ranks::zero_ranks();
     RanksPair {
         outcome,
         from: none,

@@ -7,7 +7,7 @@ use coordinates::Coordinates;
 use order::Cell;
 use order::Order;
 use order::Rank;
-use order::Ranks;
+use ranks::Ranks;
 
 pub struct OrderFound {
     pub number: u8,

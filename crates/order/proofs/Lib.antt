@@ -8,13 +8,10 @@ pub mod Padded
 pub mod Limits
 pub mod Marks
 pub mod Check
-pub mod Ranking
 pub mod Inverse
-pub mod Inverted
 pub mod Listings
 pub mod Filling
 pub mod Records
 pub mod Pairs
-pub mod Inverses
 pub mod Told
 pub mod Row

@@ -3,15 +3,11 @@
 use mathlib.Core.Path.{_≡_, refl}
 use mathlib.Core.Bool.{true}
 use Rattle.order.specs.declared.Order.{Order}
-use Rattle.order.specs.declared.Ranks.{Ranks}
 use Rattle.order.specs.Refusals.{checkRow, inRow}
-use Rattle.order.specs.Order.{orderChecks, pairChecks, rankChecks}
+use Rattle.order.specs.Order.{orderChecks, pairChecks}
 
 pub order-in-row : (o : Order) → inRow (orderChecks o) checkRow ≡ true
 order-in-row o = refl
 
 pub pair-in-row : (u v : Order) → inRow (pairChecks u v) checkRow ≡ true
 pair-in-row u v = refl
-
-pub ranks-in-row : (r : Ranks) → inRow (rankChecks r) checkRow ≡ true
-ranks-in-row r = refl

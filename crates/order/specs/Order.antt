@@ -1,4 +1,4 @@
--- The records of orders and ranks, and what the calls on them answer.
+-- The record of an order, and what the calls on it answer.
 --
 --   cellNumbers o       the numbers in the record's twelve places
 --   listed o            the cells of the order, by number
@@ -6,30 +6,20 @@
 --   orderChecks o       the checks of an order that is handed in without a group: n is its length
 --   pairChecks u v      the checks of two orders without a group: n is the first one's length
 --   orderRecord xs      the record of a list of cells
---   rankNumbers r       the numbers in the record's twelve places
---   ranked r            the ranks, by cell
---   rankChecks r        the checks of ranks that are handed in
---   ranksOf o           the inverse of an order: the rank of each cell
---   orderByRank r       the inverse of ranks: the cell of each rank
---   noOrder, noRanks    the zeros beside a refusal
---   toldOrder, toldRanks           what an answer says: its number, and the order or the ranks
---   orderOfCells, ranksOfOrder, orderOfRanks    the answers to `order_of`, `ranks_of` and `from_ranks`
-use Prim.Native.Nat.{ℕ, suc}
+--   noOrder             the zeros beside a refusal
+--   toldOrder           what an answer says: its number, and the order
+--   orderOfCells        the answer to `order_of`
+use Prim.Native.Nat.{ℕ}
 use mathlib.Core.Bool.{Bool, _&&_}
 use mathlib.Core.List.{List, [], _∷_, _++_, map}
 use lib.ListN.{length, getD, take, replicate}
 use Rattle.order.specs.declared.Cell.{Cell}
-use Rattle.order.specs.declared.Rank.{Rank}
 use Rattle.order.specs.declared.Order.{Order}
-use Rattle.order.specs.declared.Ranks.{Ranks}
 use Rattle.order.specs.declared.OrderAnswer.{OrderAnswer}
-use Rattle.order.specs.declared.RanksAnswer.{RanksAnswer}
 use Rattle.order.specs.declared.Refusal.{Refusal}
 use Rattle.order.specs.declared.Refusal.the-variants.{Size, NoOrder}
 use Rattle.order.specs.Refusals.{outcomeNumber, Told, answer, isSize}
-use Rattle.order.specs.Cells.{isOrder, isListing, tabulate, placeOf}
-
--- ---- orders
+use Rattle.order.specs.Cells.{isOrder, isListing, tabulate}
 
 unfoldable pub cellNumbers : Order → List ℕ
 cellNumbers o = map (λ (c : Cell). c .0) (o .cells)
@@ -58,32 +48,3 @@ toldOrder a = record { number = outcomeNumber (a .outcome); value = a .order }
 -- an order from a list of cell numbers of any length
 unfoldable pub orderOfCells : List ℕ → Told Order
 orderOfCells xs = answer ((isSize (length xs), Size) ∷ (isOrder (length xs) xs, NoOrder) ∷ []) (orderRecord xs) noOrder
-
--- ---- ranks
-
-unfoldable pub rankNumbers : Ranks → List ℕ
-rankNumbers r = map (λ (k : Rank). k .0) (r .ranks)
-
-abbrev pub ranked : Ranks → List ℕ
-ranked r = take (r .len) (rankNumbers r)
-
-abbrev pub rankChecks : Ranks → List (Bool × Refusal)
-rankChecks r = (isSize (r .len), Size) ∷ (isListing (r .len) (r .len) (rankNumbers r), NoOrder) ∷ []
-
-unfoldable pub ranksOf : Order → Ranks
-ranksOf o = record { len = o .len; ranks = tabulate 12 (λ k. record { 0 = placeOf (listed o) (suc k) }) }
-
-unfoldable pub orderByRank : Ranks → Order
-orderByRank r = record { len = r .len; cells = tabulate 12 (λ k. record { 0 = placeOf (ranked r) (suc k) }) }
-
-abbrev pub noRanks : Ranks
-noRanks = record { len = 0; ranks = replicate 12 (record { 0 = 0 }) }
-
-abbrev pub toldRanks : RanksAnswer → Told Ranks
-toldRanks a = record { number = outcomeNumber (a .outcome); value = a .ranks }
-
-unfoldable pub ranksOfOrder : Order → Told Ranks
-ranksOfOrder o = answer (orderChecks o) (ranksOf o) noRanks
-
-unfoldable pub orderOfRanks : Ranks → Told Order
-orderOfRanks r = answer (rankChecks r) (orderByRank r) noOrder

@@ -1,15 +1,14 @@
 // Cells, ranks and orders (document 01, "Cells, ranks, levels") and the refusal table.
 // Every public function takes any value and answers it by one equation with a definition of specs/; a call that can refuse answers the
-// refusal's number and zeros, or the result. Proved besides: an order and its ranks undo each other, both ways (proofs/Inverses).
+// refusal's number and zeros, or the result.
 ghost use mathlib.Core.Path.{_≡_};
-ghost use mathlib.Core.Bool.{true, cond};
-ghost use Prim.Native.Nat.{_-_, _≤_};
-ghost use lib.Dec.{ltb};
-ghost use lib.ListN.{length, drop, set};
+ghost use mathlib.Core.Bool.{true};
+ghost use Prim.Native.Nat.{_≤_};
+ghost use lib.ListN.{length};
 ghost use Rattle.order.specs.Refusals.{refusalNumber, outcomeNumber, numberOf, isSize};
-ghost use Rattle.order.specs.Cells.{isOrder, isListing, allZero};
+ghost use Rattle.order.specs.Cells.{isOrder};
 ghost use Rattle.order.specs.Steps.{isPadded};
-ghost use Rattle.order.specs.Order.{cellNumbers, listed, isOrderOf, orderChecks, pairChecks, noOrder, orderRecord, toldOrder, orderOfCells, rankNumbers, ranksOf, orderByRank, toldRanks, ranksOfOrder, orderOfRanks};
+ghost use Rattle.order.specs.Order.{cellNumbers, listed, isOrderOf, orderChecks, pairChecks, noOrder, orderRecord, toldOrder, orderOfCells};
 
 // From place 12 - n on: the limits of the numbers in the twelve places of an order of n cells.
 const LIMITS: [u8; 24] = [
@@ -51,12 +50,6 @@ pub struct Order {
     pub cells: [Cell; 12],
 }
 
-// The rank of cell c at index c - 1. Indices from `len` on hold `Rank(0)`.
-pub struct Ranks {
-    pub len: usize,
-    pub ranks: [Rank; 12],
-}
-
 // The words of document 01's refusal table, in its order.
 pub enum Refusal {
     Size,
@@ -81,11 +74,6 @@ pub enum Outcome {
 pub struct OrderAnswer {
     pub outcome: Outcome,
     pub order: Order,
-}
-
-pub struct RanksAnswer {
-    pub outcome: Outcome,
-    pub ranks: Ranks,
 }
 
 impl Cell {
@@ -275,123 +263,4 @@ pub fn zero_order() -> Order
         len: 0,
         cells: [Cell(0); 12],
     }
-}
-
-// The inverse of an order.
-pub fn ranks_of(o: Order) -> RanksAnswer
-    ensures { λ r. ⌜ toldRanks r ≡ ranksOfOrder o ⌝ }
-{
-    let outcome = check_order(o);
-    let Outcome::Done = outcome else {
-        return RanksAnswer {
-            outcome,
-            ranks: Ranks {
-                len: 0,
-                ranks: [Rank(0); 12],
-            },
-        };
-    };
-    RanksAnswer {
-        outcome: Outcome::Done,
-        ranks: ranks_by_sweep(o),
-    }
-}
-
-// The rank of each cell: a sweep from the last place to the first.
-fn ranks_by_sweep(o: Order) -> Ranks
-    requires { ⌜ (o .len ≤ 12) × (isOrder (o .len) (listed o) ≡ true) ⌝ }
-    ensures { λ r. ⌜ r ≡ ranksOf o ⌝ }
-{
-    let n = o.len;
-    let mut ranks = [Rank(0); 12];
-    let mut i = n;
-    while 0 < i {
-        let c = o.cells[i - 1].number();
-        ranks[c - 1] = Rank(i as u8);
-        i -= 1;
-    }
-    Ranks {
-        len: n,
-        ranks: ranks,
-    }
-}
-
-// The order of given ranks.
-pub fn from_ranks(r: Ranks) -> OrderAnswer
-    ensures { λ a. ⌜ toldOrder a ≡ orderOfRanks r ⌝ }
-{
-    let n = r.len;
-    if !is_size(n) {
-        return no_order(Refusal::Size);
-    }
-    if !are_ranks(r) {
-        return no_order(Refusal::NoOrder);
-    }
-    OrderAnswer {
-        outcome: Outcome::Done,
-        order: cells_by_sweep(r),
-    }
-}
-
-// Whether the ranks are 1 to the length, each once, and the later places 0: their inverse then lists each cell once.
-fn are_ranks(r: Ranks) -> bool
-    requires { ⌜ isSize (r .len) ≡ true ⌝ }
-    ensures { λ b. ⌜ b ≡ isListing (r .len) (r .len) (rankNumbers r) ⌝ }
-{
-    let n = r.len;
-    if is_order(cells_by_sweep(r), n) {
-        ranks_are_clear_past(r)
-    } else {
-        false
-    }
-}
-
-// Whether the places past the length hold no rank.
-fn ranks_are_clear_past(r: Ranks) -> bool
-    requires { ⌜ r .len ≤ 12 ⌝ }
-    ensures { λ b. ⌜ b ≡ allZero (drop (r .len) (rankNumbers r)) ⌝ }
-{
-    let mut i = r.len;
-    while i < 12 {
-        if r.ranks[i].0 != 0 {
-            return false;
-        }
-        i += 1;
-    }
-    true
-}
-
-// The cell of each rank: a sweep from the last cell to the first.
-fn cells_by_sweep(r: Ranks) -> Order
-    requires { ⌜ r .len ≤ 12 ⌝ }
-    ensures { λ o. ⌜ o ≡ orderByRank r ⌝ }
-{
-    let n = r.len;
-    let mut cells = [Cell(0); 12];
-    let mut c = n;
-    while 0 < c {
-        let k = r.ranks[c - 1].number();
-        let next = with_cell_ranked(cells, k, Cell(c as u8));
-        cells = next;
-        c -= 1;
-    }
-    Order {
-        len: n,
-        cells: cells,
-    }
-}
-
-// The cells with cell c at the place of rank k. A rank outside 1 to 12 has no place.
-fn with_cell_ranked(cells: [Cell; 12], k: usize, c: Cell) -> [Cell; 12]
-    ensures { λ r. ⌜ r ≡ cond (ltb k 1) cells (set cells (k - 1) c) ⌝ }
-{
-    if k < 1 {
-        return cells;
-    }
-    if 12 < k {
-        return cells;
-    }
-    let mut next = cells;
-    next[k - 1] = c;
-    next
 }

@@ -3,7 +3,7 @@
 use borrow.Author.Needs.{needs}
 use mathlib.Core.Path.{_∙_, sym, ap}
 use Rattle.order.specs.Refusals.{outcomeNumber}
-use Rattle.order.specs.Order.{ranksOf}
+use Rattle.ranks.specs.Ranks.{ranksOf}
 use Rattle.order.proofs.Refusals.{told-refused, told-done}
 use Rattle.cost.specs.Cost.{costOf}
 use Rattle.cost.proofs.Pairs.{pair-number, pair-done, pair-low}

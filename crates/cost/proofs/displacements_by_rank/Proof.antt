@@ -7,7 +7,7 @@ use mir.Syntax.{w8}
 use mir.ValLaws.{toZ-ofZ}
 use lib.IntN.{subℕ}
 use lib.ListN.{getD}
-use Rattle.order.proofs.Numbers.{rank-at}
+use Rattle.ranks.proofs.RankNumbers.{rank-at}
 use Rattle.cost.proofs.Signs.{sub-fits}
 use Rattle.cost.proofs.Loops.{Changed, changed-none, changed-more, changed-all}
 use Rattle.cost.proofs.displacements_by_rank.Statement.{statement}

@@ -4,7 +4,7 @@ use borrow.Author.Needs.{needs}
 use Prim.Native.Nat.{_-_}
 use native.Mathlib.Omega.{arith}
 use mathlib.Core.Logic.{⊎-elim}
-use Rattle.order.proofs.Numbers.{rank-at}
+use Rattle.ranks.proofs.RankNumbers.{rank-at}
 use Rattle.cost.proofs.Loops.{Grown, grown-none, grown-kept, grown-more, grown-all}
 use Rattle.cost.proofs.largest_growth.Statement.{statement}
 use Rattle.cost.proofs.largest_growth.Tie as tie

@@ -4,7 +4,8 @@ use borrow.Author.Needs.{needs}
 use mathlib.Core.Path.{_≡_}
 use Rattle.order.specs.declared.Outcome.the-variants.{Done}
 use Rattle.order.specs.Refusals.{numberOf}
-use Rattle.order.specs.Order.{pairChecks, ranksOf}
+use Rattle.order.specs.Order.{pairChecks}
+use Rattle.ranks.specs.Ranks.{ranksOf}
 use Rattle.order.proofs.Refusals.{accepted, passed-on, told-done}
 use Rattle.cost.specs.Steps.{ranksOfPair}
 use Rattle.order.proofs.Pairs.{passed-first, passed-second}

@@ -5,21 +5,33 @@ use mathlib.Core.Path.{_≡_, refl, sym, ap, _∙_}
 use mathlib.Core.Bool.{true}
 use mathlib.Core.List.{List}
 use lib.ListN.{length}
 use Rattle.order.specs.declared.Cell.{Cell}
 use Rattle.order.specs.declared.Rank.{Rank}
 use Rattle.order.specs.declared.Order.{Order}
-use Rattle.order.specs.declared.Ranks.{Ranks}
-use Rattle.order.specs.Refusals.{numberOf}
-use Rattle.order.specs.Cells.{isListing}
-use Rattle.order.specs.Order.{cellNumbers, listed, orderChecks, orderRecord, rankNumbers, ranked, rankChecks, ranksOf, orderByRank, ranksOfOrder, orderOfRanks}
+use Rattle.ranks.specs.declared.Ranks.{Ranks}
+use Rattle.order.specs.Refusals.{numberOf, isSize}
+use Rattle.order.specs.Cells.{isListing, isOrder}
+use Rattle.order.specs.Order.{cellNumbers, listed, isOrderOf, orderChecks, orderRecord}
+use Rattle.ranks.specs.Ranks.{rankNumbers, ranked, rankChecks, ranksOf, orderByRank, ranksOfOrder, orderOfRanks}
 use Rattle.order.proofs.Cells.{IsOrder, order-true}
-use Rattle.order.proofs.Refusals.{told-done, sized-done, sized-holds, size-in}
+use Rattle.order.proofs.Refusals.{told-done, sized-done, sized-holds, size-true, size-in}
 use Rattle.order.proofs.Check.{Listing, listing-parts}
 use Rattle.order.proofs.Records.{passed, passed-order, record-back}
 use Rattle.order.proofs.Padded.{padded, padded-back}
 use Rattle.order.proofs.Inverse.{inverseTo}
-use Rattle.order.proofs.Inverted.{inverted, inverted-listed, inverted-listing, inverted-back}
-use Rattle.order.proofs.Listings.{cell, cellNumber, rank, rankNumber, ranks-order}
+use Rattle.ranks.proofs.InverseArray.{inverted, inverted-listed, inverted-listing, inverted-back, inverted-order}
+use Rattle.order.proofs.Listings.{cell, cellNumber}
+use Rattle.order.proofs.Check.{sized-listing}
+use Rattle.order.proofs.Numbers.{length-front}
+use Rattle.ranks.proofs.RankNumbers.{rank, rankNumber, length-ranks}
+
+-- ranks list each rank once where their inverse lists each cell once
+pub ranks-order : (r : Ranks) → length (r .ranks) ≡ 12 → isSize (r .len) ≡ true → isOrderOf (r .len) (orderByRank r) ≡ isOrder (r .len) (ranked r)
+unfolding cellNumbers orderByRank inverted
+ranks-order r w z =
+    let s = size-true (r .len) z .1 in
+    sym (sized-listing (r .len) (orderByRank r) z)
+    ∙ inverted-order cell cellNumber (λ k. refl) (λ c. refl) 12 (r .len) (ranked r) (length-front (rankNumbers r) (r .len) (length-ranks r w) s) s
 
 -- ---- the order of an order's ranks
 

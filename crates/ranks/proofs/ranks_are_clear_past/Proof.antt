@@ -1,11 +1,13 @@
--- `order::ranks_are_clear_past` meets its contract. The loop's invariant: the places from the length up to `i` are 0.
+-- `ranks::ranks_are_clear_past` meets its contract. The loop's invariant: the places from the length up to `i` are 0.
 -- Assumes nothing.
 use borrow.Author.Needs.{needs}
 use Prim.Native.Nat.{_-_}
-use Rattle.order.specs.Order.{rankNumbers}
-use Rattle.order.proofs.Numbers.{length-mapped, length-ranks, rank-at, ClearTo, clear-none, clear-more, clear-not, clear-end}
-use Rattle.order.proofs.ranks_are_clear_past.Statement.{statement}
-use Rattle.order.proofs.ranks_are_clear_past.Tie as tie
+use native.Mathlib.Omega.{arith}
+use Rattle.ranks.specs.Ranks.{rankNumbers}
+use Rattle.order.proofs.Numbers.{length-mapped}
+use Rattle.ranks.proofs.RankNumbers.{length-ranks, rank-at, ClearTo, clear-none, clear-more, clear-not, clear-end}
+use Rattle.ranks.proofs.ranks_are_clear_past.Statement.{statement}
+use Rattle.ranks.proofs.ranks_are_clear_past.Tie as tie
 
 abbrev Inv-loop : tie.InvT-loop
 Inv-loop r i₀ i = ClearTo (rankNumbers r) (r .len) i
@@ -20,7 +22,7 @@ element-copy-out-if1 : tie.Need-element-copy-out-if1 Inv-loop μ-loop
 element-copy-out-if1 c = search needs
 
 returns : tie.Need-returns Inv-loop μ-loop
-returns c = clear-not (c .before .before .loop .inv) (c .before .loop-test .taken) (rank-at _ _) (c .if1 .taken)
+returns c = clear-not (c .before .before .loop .inv) (omega arith) (rank-at _ _) (c .if1 .taken)
 
 add-i : tie.Need-add-i Inv-loop μ-loop
 add-i c = search needs
@@ -29,10 +31,10 @@ loop-less : tie.Need-loop-less Inv-loop μ-loop
 loop-less c = search needs
 
 loop-again : tie.Need-loop-again Inv-loop μ-loop
-loop-again c = clear-more (c .before .before .loop .inv) (c .before .loop-test .taken) (rank-at _ _) (c .if1 .left)
+loop-again c = clear-more (c .before .before .loop .inv) (omega arith) (rank-at _ _) (c .if1 .left)
 
 returns-2 : tie.Need-returns-2 Inv-loop μ-loop
-returns-2 c = clear-end (c .before .loop .inv) (c .loop-test .left)
+returns-2 c = clear-end (c .before .loop .inv) (omega arith)
 
 pub ranks-are-clear-past-spec : {M : Type 1} → statement M
 ranks-are-clear-past-spec =

@@ -9,10 +9,14 @@ use mathlib.Core.List.{List, _∷_}
 use lib.Dec.{ltb}
 use lib.ListN.{length, take, drop, set, replicate}
 use borrow.Author.Tests.{le-ltb, eq-eqb, ne-eqb}
+use Rattle.order.specs.declared.Cell.{Cell}
+use Rattle.order.specs.declared.Rank.{Rank}
 use Rattle.order.specs.Cells.{placeFrom, placeOf, tabulate}
 use Rattle.order.proofs.Cells.{IsOrder, lt-cases}
 use Rattle.order.proofs.Tabulate.{tabulate-ext, tabulate-set}
+use Rattle.order.proofs.Listings.{cell}
+use Rattle.ranks.specs.Steps.{withCell}
 use Rattle.order.proofs.Sweep.{Downto, Turn, turn-by, met-low, met-high, down-none, down-more, drop-none, met-down}
 
 place-same : (p x : ℕ) (xs : List ℕ) → placeFrom p (x ∷ xs) x ≡ p
 unfolding placeFrom
@@ -63,14 +67,21 @@ module _ {A : Type 0} (wrap : ℕ → A) where
       pub placed-high : x ≤ 12
       placed-high = omega (arith, met-high on-down o, s .down .small)
 
-    pub placed-more : Placed xs len (cond (ltb x 1) ys (set ys (x - 1) (wrap i))) (i - 1)
+    placed-more : Placed xs len (cond (ltb x 1) ys (set ys (x - 1) (wrap i))) (i - 1)
     placed-more =
         let e : suc (i - 1) ≡ i = omega arith in
         record { down = down-more on-down; sofar = rw (s .sofar, met-down on-down, e) (places-more i x (drop i (take len xs))) }
 
-    pub placed-order : IsOrder len (take len xs) → Placed xs len (set ys (x - 1) (wrap i)) (i - 1)
-    placed-order o = rw (le-ltb x 1 (placed-low o)) at placed-more
+    -- i is stored at the place of x
+    pub placed-order : IsOrder len (take len xs) → {j v : ℕ} → j ≡ x - 1 → v ≡ i → Placed xs len (set ys j (wrap v)) (i - 1)
+    placed-order o a b = rw (a, b) (rw (le-ltb x 1 (placed-low o)) at placed-more)
 
   pub placed-all : {xs : List ℕ} {ys : List A} {len i : ℕ} → Placed xs len ys i → i ≤ 0 → ys ≡ tabulate 12 (λ k. wrap (placeOf (take len xs) (suc k)))
   unfolding placesFrom placeOf
   placed-all {i = i} s l = let e : i ≡ 0 = omega arith in rw e at (s .sofar)
+
+-- cell c is stored at the place of its rank, where it has one
+pub placed-cell : {xs : List ℕ} {ys : List Cell} {len c x : ℕ} → Turn (Placed cell xs len ys c) xs c x
+    → {rank : Rank} {next : Cell} → rank .0 ≡ x → next .0 ≡ c → Placed cell xs len (withCell ys rank next) (c - 1)
+unfolding withCell
+placed-cell t a b = let e = ap cell b in rw (a, e) (placed-more cell t)

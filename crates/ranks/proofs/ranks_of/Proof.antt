@@ -1,11 +1,11 @@
--- `order::ranks_of` meets its contract.
+-- `ranks::ranks_of` meets its contract.
 -- Assumes nothing.
 use borrow.Author.Needs.{needs}
-use Rattle.order.specs.Order.{ranksOfOrder}
 use Rattle.order.proofs.Refusals.{accepted, passed-on, told-done}
 use Rattle.order.proofs.Records.{passed, passed-listed}
-use Rattle.order.proofs.ranks_of.Statement.{statement}
-use Rattle.order.proofs.ranks_of.Tie as tie
+use Rattle.ranks.specs.Ranks.{ranksOfOrder}
+use Rattle.ranks.proofs.ranks_of.Statement.{statement}
+use Rattle.ranks.proofs.ranks_of.Tie as tie
 
 check-order-requires : tie.Need-check-order-requires
 check-order-requires c κs = search needs
@@ -16,9 +16,14 @@ enum-told c = search needs
 enum-told-2 : tie.Need-enum-told-2
 enum-told-2 c = search needs
 
+zero-ranks-requires : tie.Need-zero-ranks-requires
+zero-ranks-requires c κs = search needs
+
 returns : tie.Need-returns
 unfolding ranksOfOrder
-returns c = passed-on _ _ _ _ (c .before .before .check-order .ensures) _ (c .enum-told2 .given .1)
+returns c =
+    rw (c .zero-ranks .ensures)
+    (passed-on _ _ _ _ (c .before .before .before .check-order .ensures) _ (c .before .enum-told2 .given .1))
 
 ranks-by-sweep-requires : tie.Need-ranks-by-sweep-requires
 ranks-by-sweep-requires c κs =
@@ -34,4 +39,11 @@ returns-2 c =
 pub ranks-of-spec : {M : Type 1} → statement M
 ranks-of-spec =
     tie.close
-    (tie.spec check-order-requires enum-told enum-told-2 returns ranks-by-sweep-requires returns-2)
+    (tie.spec
+    check-order-requires
+    enum-told
+    enum-told-2
+    zero-ranks-requires
+    returns
+    ranks-by-sweep-requires
+    returns-2)

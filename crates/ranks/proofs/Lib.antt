@@ -1,0 +1,5 @@
+pub mod RankNumbers
+pub mod Ranking
+pub mod InverseArray
+pub mod Determine
+pub mod Told

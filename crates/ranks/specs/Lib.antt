@@ -1,0 +1,2 @@
+pub mod Ranks
+pub mod Steps
