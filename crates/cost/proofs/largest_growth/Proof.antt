@@ -41,10 +41,12 @@ loop-less c = search needs
 
 loop-again : tie.Need-loop-again Inv-loop μ-loop
 loop-again c =
-    let s = c .before .before .loop .inv in
-    let l = c .before .loop-test .taken in
-    ⊎-elim (λ w. rw (w .1) (grown-more s l (rank-at _ _) (rank-at _ _) (w .0 .taken) (c .before .before .before .pre .2)))
-    (λ w. rw (w .1) (grown-kept s l (rank-at _ _) (rank-at _ _) (w .0 .left)))
+    let at = c .before .before in
+    let start = at .before in
+    let from = rank-at (start .args .t1) (at .loop .i) in
+    let to = rank-at (start .args .t2) (at .loop .i) in
+    ⊎-elim (λ w. rw (w .1) (grown-more (at .loop .inv) (omega arith) from to (omega (arith, w .0 .taken)) (start .pre .2)))
+    (λ w. rw (w .1) (grown-kept (at .loop .inv) (omega arith) from to (omega (arith, w .0 .left))))
     (c .if1 .came)
 
 returns : tie.Need-returns Inv-loop μ-loop
