@@ -1,23 +1,22 @@
 -- The sweep that takes the coordinates of an order.
 -- Assumes nothing.
-use Prim.Native.Nat.{ℕ, zero, suc, _+_, _-_, _%_, _^_, _≤_}
+use Prim.Native.Nat.{ℕ, zero, suc, _-_, _%_, _^_, _≤_}
 use native.Mathlib.Omega.{arith}
 use mathlib.Core.Path.{_≡_, refl, sym, ap}
 use mathlib.Core.Bool.{true, cond}
 use mathlib.Core.Logic.{⊎-elim}
 use mathlib.Core.List.{List, [], _∷_}
-use mir.Syntax.{w32}
-use mir.Val.{Fits}
+use lib.Bits.{bitOr}
 use lib.Count.{ones}
 use lib.Dec.{ltb}
 use lib.ListN.{length, take, drop, set, replicate}
 use borrow.Author.Tests.{eq-eqb, ne-eqb}
 use Rattle.order.specs.Cells.{count, below, isOrder, tabulate}
 use Rattle.order.proofs.Cells.{IsOrder, order-true, lt-cases}
-use Rattle.order.proofs.Mask.{holds-below}
 use Rattle.order.proofs.Tabulate.{tabulate-ext, tabulate-set}
-use Rattle.order.proofs.Sweep.{Downto, Turn, turn-by, bit-small, met-fits, Swept, swept-none, swept-more, drop-none, met-low, met-high, met-new, met-down}
+use Rattle.order.proofs.Sweep.{Downto, Turn, turn-by, down-none, down-more, drop-none, met-low, met-high, met-new, met-down}
 use Rattle.coordinates.specs.Coordinates.{coordinateOf, coordinatesTo}
+use Rattle.coordinates.proofs.Mask.{Holds, holds-none, holds-more, holds-below}
 
 -- ---- the coordinates of a list with one more cell in front
 
@@ -53,54 +52,48 @@ coordinates-none m = go m
 
 -- the cells from place i on have been met, and the values are their coordinates, 0 for the other cells
 pub record Counted (xs : List ℕ) (len met : ℕ) (values : List ℕ) (i : ℕ) : Type 0 where
-  pub swept : Swept xs len met i
+  pub down : Downto xs len i
   pub order : IsOrder len (take len xs)
+  pub holds : Holds met (drop i (take len xs))
   pub sofar : values ≡ coordinatesTo 11 (drop i (take len xs))
 
 pub counted-none : (xs : List ℕ) (len : ℕ) → length xs ≡ 12 → len ≤ 12 → isOrder len (take len xs) ≡ true → Counted xs len 0 (replicate 11 0) len
 counted-none xs len w s t =
-    record { swept = swept-none xs len w s; order = order-true len (take len xs) t; sofar = rw (drop-none xs len w s) (coordinates-none 11) }
+    record {
+      down = down-none xs len w s;
+      order = order-true len (take len xs) t;
+      holds = rw (drop-none xs len w s) holds-none;
+      sofar = rw (drop-none xs len w s) (coordinates-none 11);
+    }
 
 module _ {xs values : List ℕ} {len met i x : ℕ} (t : Turn (Counted xs len met values i) xs i x) where
   open Turn t using (state as s)
 
-  on-swept : Turn (Swept xs len met i) xs i x
-  on-swept = turn-by (λ (s : Counted xs len met values i). s .swept) t
-
   on-down : Turn (Downto xs len i) xs i x
-  on-down = turn-by (λ (s : Swept xs len met i). s .down) on-swept
+  on-down = turn-by (λ (s : Counted xs len met values i). s .down) t
 
   pub counted-low : 1 ≤ x
   counted-low = met-low on-down (s .order)
 
   pub counted-high : x ≤ 12
-  counted-high = omega (arith, met-high on-down (s .order), s .swept .down .small)
+  counted-high = omega (arith, met-high on-down (s .order), s .down .small)
 
-  pub counted-bit : 2 ^ (x - 1) ≤ 2048
-  counted-bit = bit-small on-swept counted-high
-
-  -- the mask with one more bit
-  pub counted-fits : {b : ℕ} → b ≤ 2048 → Fits w32 (met + b)
-  counted-fits = met-fits on-swept counted-high
-
-  pub counted-new : count x (drop i (take len xs)) ≡ 0
-  counted-new = met-new on-down (s .order)
+  same-cell : suc (x - 1) ≡ x
+  same-cell = omega (arith, counted-low)
 
   -- the ones below its bit count the cells met that are below it
-  pub counted-below : ones (met % 2 ^ (x - 1)) ≡ below x (drop i (take len xs))
-  counted-below =
-      let e : suc (x - 1) ≡ x = omega (arith, counted-low) in
-      rw e at (holds-below met (x - 1) (drop i (take len xs)) (s .swept .holds))
+  counted-below : ones (met % 2 ^ (x - 1)) ≡ below x (drop i (take len xs))
+  counted-below = rw same-cell at (holds-below (s .holds) (x - 1))
 
-  pub counted-down : drop (i - 1) (take len xs) ≡ x ∷ drop i (take len xs)
-  counted-down = met-down on-down
-
-  pub counted-more : Counted xs len (met + 2 ^ (x - 1)) (cond (ltb x 2) values (set values (x - 2) (ones (met % 2 ^ (x - 1))))) (i - 1)
-  counted-more = record {
-    swept = swept-more on-swept counted-high counted-low counted-new;
-    order = s .order;
-    sofar = rw (s .sofar, counted-below, counted-down) (coordinates-more 11 x (drop i (take len xs)) counted-low);
-  }
+  pub counted-more : Counted xs len (bitOr met (2 ^ (x - 1))) (cond (ltb x 2) values (set values (x - 2) (ones (met % 2 ^ (x - 1))))) (i - 1)
+  counted-more =
+      let new : count (suc (x - 1)) (drop i (take len xs)) ≡ 0 = rw same-cell (met-new on-down (s .order)) in
+      record {
+        down = down-more on-down;
+        order = s .order;
+        holds = rw (met-down on-down) (rw same-cell at (holds-more (s .holds) (x - 1) new));
+        sofar = rw (s .sofar, counted-below, met-down on-down) (coordinates-more 11 x (drop i (take len xs)) counted-low);
+      }
 
 pub counted-all : {xs values : List ℕ} {len met i : ℕ} → Counted xs len met values i → i ≤ 0 → values ≡ coordinatesTo 11 (take len xs)
 counted-all {i = i} s l = let e : i ≡ 0 = omega arith in rw e at (s .sofar)

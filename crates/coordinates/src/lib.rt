@@ -70,7 +70,7 @@ fn coordinates_by_sweep(o: Order) -> Coordinates
         let c = o.cells[i].number();
         let v = count_below(met, c);
         put_coordinate(&mut values, c, v);
-        met += bit_of(c);
+        met = met | bit_of(c);
     }
     Coordinates { len: n - 1, values }
 }

@@ -1,11 +1,11 @@
 pub mod Cells
 pub mod Refusals
 pub mod Tabulate
-pub mod Mask
 pub mod Numbers
 pub mod Sweep
 pub mod Padded
 pub mod Limits
+pub mod Bits
 pub mod Marks
 pub mod Check
 pub mod Inverse

@@ -1,54 +1,21 @@
--- The set of the numbers met in a list, as a number: digit k is 1 where k is met.
+-- The loop that takes the set of the numbers met in a record.
 -- Assumes nothing.
-use Prim.Native.Nat.{ℕ, zero, suc, _+_, _-_, _/_, _%_, _^_, _≤_, _<_, suc-le-suc, max}
-use native.Mathlib.Nat.{zero-add, max-zero, max-eq-right, max-le, zero-div}
-use native.Mathlib.Numerals.{one-add}
+use Prim.Native.Nat.{ℕ, zero, suc, _+_, _-_, _/_, _%_, _^_, _≤_, _<_, max}
+use native.Mathlib.Nat.{zero-add, max-zero, max-eq-right}
 use native.Mathlib.Omega.{arith}
 use mathlib.Core.Path.{_≡_, refl, sym, ap, _∙_}
 use mathlib.Core.Bool.{Bool, true, false, false≢true}
 use mathlib.Core.Logic.{⊎-elim}
 use mathlib.Core.List.{List, [], _∷_}
 use lib.ListN.{length, getD, take, drop, drop-of-length-le, take-append-drop}
-use lib.Arith.{digits-mod}
-use lib.Bits.{bitOr, or-step, or-shr, or-lt}
-use lib.Pow.{pow-pos, pow-lt, pow-mono, shr-shr}
-use lib.Dec.{eqb, ltb, leb·suc-suc, eqb·suc-suc}
+use lib.Bits.{bitOr, or-lt}
+use lib.Pow.{pow-lt, pow-mono}
+use lib.Dec.{eqb, ltb}
 use borrow.Author.Tests.{eq-eqb, ne-eqb, eqb-true}
 use Rattle.order.specs.Cells.{tally, count, allZero, isOrder}
 use Rattle.order.proofs.Cells.{both, lt-cases, tally-lt, tally-ge, tally-ne, tally-le, countIf-append, count-drop, IsOrder, each-listed, order-true, true-order, order-count, order-past}
+use Rattle.order.proofs.Bits.{digit-of-power, digit-of-ones, digit-of-or, same-digits}
 use Rattle.order.proofs.Numbers.{drop-up, length-front}
-
--- ---- the digits of a number
-
-next-digit : (k m : ℕ) → m / 2 ^ suc k % 2 ≡ m / 2 / 2 ^ k % 2
-next-digit k m = sym (ap (λ (x : ℕ). x % 2) (shr-shr m 1 k ∙ ap (λ (x : ℕ). m / 2 ^ x) (one-add k)))
-
-digit-of-zero : (k : ℕ) → 0 / 2 ^ k % 2 ≡ 0
-digit-of-zero k = ap (λ (x : ℕ). x % 2) (zero-div (2 ^ k))
-
-digit-of-power : (k j : ℕ) → 2 ^ j / 2 ^ k % 2 ≡ tally (eqb k j)
-digit-of-power zero zero = refl
-digit-of-power zero (suc j) = omega (arith, tally-ne (suc j) 0 (omega arith))
-digit-of-power (suc k) zero = next-digit k 1 ∙ digit-of-zero k ∙ sym (tally-ne 0 (suc k) (omega arith))
-digit-of-power (suc k) (suc j) =
-    let half : 2 ^ suc j / 2 ≡ 2 ^ j = omega arith in
-    next-digit k (2 ^ suc j) ∙ ap (λ (x : ℕ). x / 2 ^ k % 2) half ∙ digit-of-power k j ∙ ap tally (sym (eqb·suc-suc k j))
-
--- the m lowest digits are 1
-digit-of-ones : (k m : ℕ) → (2 ^ m - 1) / 2 ^ k % 2 ≡ tally (ltb k m)
-digit-of-ones k zero = digit-of-zero k ∙ sym (tally-ge k 0 (omega arith))
-digit-of-ones zero (suc m) = omega (arith, pow-pos m, tally-lt 0 (suc m) (omega arith))
-digit-of-ones (suc k) (suc m) =
-    let half : (2 ^ suc m - 1) / 2 ≡ 2 ^ m - 1 = omega (arith, pow-pos m) in
-    next-digit k (2 ^ suc m - 1) ∙ ap (λ (x : ℕ). x / 2 ^ k % 2) half ∙ digit-of-ones k m ∙ ap tally (sym (leb·suc-suc (suc k) m))
-
-digit-of-or : (a b k : ℕ) → bitOr a b / 2 ^ k % 2 ≡ max (a / 2 ^ k % 2) (b / 2 ^ k % 2)
-digit-of-or a b k = ap (λ (x : ℕ). x % 2) (or-shr a b k ∙ or-step (a / 2 ^ k) (b / 2 ^ k)) ∙ digits-mod _ (suc-le-suc (max-le (omega arith) (omega arith)))
-
-same-digits : (m a b : ℕ) → a < 2 ^ m → b < 2 ^ m → ((k : ℕ) → a / 2 ^ k % 2 ≡ b / 2 ^ k % 2) → a ≡ b
-same-digits zero a b p q h = omega arith
-same-digits (suc m) a b p q h =
-    omega (arith, h 0, same-digits m (a / 2) (b / 2) (omega arith) (omega arith) (λ k. sym (next-digit k a) ∙ h (suc k) ∙ next-digit k b))
 
 -- ---- the loop: the numbers met are 0 and those before place i
 

@@ -1,17 +1,13 @@
 -- A sweep over the listed numbers of a record from the last place to the first.
 -- Assumes nothing.
-use Prim.Native.Nat.{ℕ, suc, _+_, _-_, _*_, _^_, _≤_, _<_}
+use Prim.Native.Nat.{ℕ, suc, _-_, _≤_, _<_}
 use native.Mathlib.Omega.{arith}
 use mathlib.Core.Path.{_≡_, refl, sym, ap, _∙_}
 use mathlib.Core.List.{List, [], _∷_}
 use lib.ListN.{length, getD, take, drop, drop-of-length-le}
 use lib.Seq.{getD-take}
-use lib.Pow.{pow-mono}
-use mir.Syntax.{w32}
-use mir.Val.{Fits}
 use Rattle.order.specs.Cells.{count}
 use Rattle.order.proofs.Cells.{IsOrder, order-range, order-count, count-drop, tally-eq}
-use Rattle.order.proofs.Mask.{Holds, holds-none, holds-more}
 use Rattle.order.proofs.Numbers.{length-front, drop-down}
 
 -- the sweep has come down to place i
@@ -64,35 +60,3 @@ module _ {xs : List ℕ} {len i x : ℕ} (t : Turn (Downto xs len i) xs i x) whe
         let e : suc (x - 1) ≡ x = omega (arith, met-low) in
         let once : count x (take len xs) ≡ 1 = rw e at (order-count len (take len xs) o (x - 1) (omega (arith, met-low, met-high))) in
         omega (arith, count-drop x (i - 1) (take len xs), ap (count x) met-down, tally-eq x x refl)
-
--- ---- with a mask of the cells met
-
-pub record Swept (xs : List ℕ) (len met i : ℕ) : Type 0 where
-  pub down : Downto xs len i
-  pub holds : Holds met (drop i (take len xs))
-  pub bound : met + 2048 * i ≤ 2048 * len
-
-pub swept-none : (xs : List ℕ) (len : ℕ) → length xs ≡ 12 → len ≤ 12 → Swept xs len 0 len
-swept-none xs len w s = record { down = down-none xs len w s; holds = rw (drop-none xs len w s) holds-none; bound = omega arith }
-
-module _ {xs : List ℕ} {len met i x : ℕ} (t : Turn (Swept xs len met i) xs i x) (l : x ≤ 12) where
-  open Turn t using (state as s, more as p)
-
-  on-down : Turn (Downto xs len i) xs i x
-  on-down = turn-by (λ (s : Swept xs len met i). s .down) t
-
-  pub bit-small : 2 ^ (x - 1) ≤ 2048
-  bit-small = pow-mono {i = x - 1} {j = 11} (omega arith)
-
-  -- the mask with one more bit
-  pub met-fits : {b : ℕ} → b ≤ 2048 → Fits w32 (met + b)
-  met-fits small = omega (arith, s .bound, s .down .left, s .down .small)
-
-  pub swept-more : 1 ≤ x → count x (drop i (take len xs)) ≡ 0 → Swept xs len (met + 2 ^ (x - 1)) (i - 1)
-  swept-more g z =
-      let e : suc (x - 1) ≡ x = omega arith in
-      record {
-        down = down-more on-down;
-        holds = rw (met-down on-down) (rw e at (holds-more met (x - 1) (drop i (take len xs)) (s .holds) (rw e z)));
-        bound = omega (arith, s .bound, bit-small);
-      }

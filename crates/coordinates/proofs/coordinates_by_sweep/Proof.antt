@@ -8,7 +8,7 @@ use Rattle.order.specs.Order.{cellNumbers}
 use Rattle.order.proofs.Numbers.{length-mapped, length-places, place-at}
 use Rattle.order.proofs.Sweep.{Turn}
 use Rattle.coordinates.specs.Calls.{coordinatesOf}
-use Rattle.coordinates.proofs.Counting.{Counted, counted-none, counted-low, counted-high, counted-bit, counted-fits, counted-more, counted-all}
+use Rattle.coordinates.proofs.Counting.{Counted, counted-none, counted-low, counted-high, counted-more, counted-all}
 use Rattle.coordinates.proofs.coordinates_by_sweep.Statement.{statement}
 use Rattle.coordinates.proofs.coordinates_by_sweep.Tie as tie
 
@@ -48,14 +48,9 @@ bit-of-requires c κs =
     let t = turn (c .before .before .before) in
     (omega (arith, counted-low t), omega (arith, counted-high t))
 
--- the bit that is added
+-- the bit of the cell
 bit : (c : tie.After-bit-of Inv-loop μ-loop) → c .bit-of .result ≡ 2 ^ (c .before .before .before .before .number .result - 1)
 bit c = c .bit-of .ensures
-
-add-met : tie.Need-add-met Inv-loop μ-loop
-add-met c =
-    let t = turn (c .before .before .before .before) in
-    counted-fits t (omega (arith, c .bit-of .ensures, counted-bit t))
 
 loop-less : tie.Need-loop-less Inv-loop μ-loop
 loop-less c = search needs
@@ -85,7 +80,6 @@ coordinates-by-sweep-spec =
     count-below-requires
     put-coordinate-requires
     bit-of-requires
-    add-met
     loop-less
     loop-again
     sub-t16
