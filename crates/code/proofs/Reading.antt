@@ -19,10 +19,11 @@ use Rattle.coordinates.specs.Calls.{coordinatesOf}
 use Rattle.distance.specs.Distance.{exchange}
 use Rattle.decoder.specs.declared.NearestAnswer.{NearestAnswer}
 use Rattle.decoder.specs.Decoding.{isCodeword, correction}
-use Rattle.decoder.specs.Nearest.{decodeChecks, toldNearest, nearestOf}
+use Rattle.decoder.specs.Nearest.{decodeChecks, exchangedOrder, toldNearest, nearestOf}
 use Rattle.decoder.proofs.Scanning.{cut}
 use Rattle.decoder.proofs.ZeroSyndrome.{cut-coordinates, cells-of}
-use Rattle.decoder.proofs.NearestWord.{lost-number, found-number, wordNear, near-passes, near-length, near-list, near-codeword, nearest-number, nearest-zeros, nearest-word, nearest-place, nearest-coordinates}
+use Rattle.decoder.proofs.Stores.{same-length, same-list, exchanged-passes}
+use Rattle.decoder.proofs.NearestWord.{lost-number, found-number, wordNear, decoded-order, near-codeword, nearest-number, nearest-zeros, nearest-word, nearest-place, nearest-coordinates}
 use Rattle.code.specs.declared.Verdict.{Verdict}
 use Rattle.code.specs.declared.Verdict.the-variants.{Clean, PutRight}
 use Rattle.code.specs.Words.{wordNumber, symbolOf}
@@ -72,17 +73,24 @@ module _ (o : Order) (a : NearestAnswer) (e : toldNearest a ≡ nearestOf o) whe
       rw (nearest-zeros o a e r d) (told-refused _ _ _ r d)
 
   module _ (d : numberOf (decodeChecks o) ≡ 0) where
+    abbrev k : ℕ
+    k = correction (o .len) (listed o)
+
+    near-passes : numberOf (orderChecks (wordNear o)) ≡ 0
+    near-passes = exchanged-passes o (decoded-order o d) k
+
     -- the codeword has a number
     pub found-word : (isSize (a .coordinates .len + 1) ≡ true) × (isWord (a .coordinates .len + 1) (cut (a .coordinates)) ≡ true)
-    found-word = coordinates-word (wordNear o) (near-passes o d) (a .coordinates) (nearest-coordinates o a e d) (near-codeword o d)
+    found-word = coordinates-word (wordNear o) near-passes (a .coordinates) (nearest-coordinates o a e d) (near-codeword o d)
 
-    found-symbol : wordNumber (a .coordinates .len + 1) (cut (a .coordinates)) ≡ symbolOf (o .len) (exchange (correction (o .len) (listed o)) (listed o))
+    found-symbol : wordNumber (a .coordinates .len + 1) (cut (a .coordinates)) ≡ symbolOf (o .len) (exchange k (listed o))
     found-symbol =
-        coordinates-number (wordNear o) (near-passes o d) (a .coordinates) (nearest-coordinates o a e d) ∙ rw (near-list o d, near-length o d)
+        coordinates-number (wordNear o) near-passes (a .coordinates) (nearest-coordinates o a e d)
+        ∙ rw (same-list o (decoded-order o d) k, same-length o (decoded-order o d) k)
 
     pub corrected-found : {s : ℕ} {v : Verdict} → s ≡ wordNumber (a .coordinates .len + 1) (cut (a .coordinates)) → v ≡ verdictAt (a .place)
         → record { number = 0; value = record { reading = record { symbol = s; verdict = some v }; word = a .word } } ≡ correctedOf o
-    unfolding correctedOf readingAt
+    unfolding correctedOf readingAt exchangedOrder
     corrected-found p q = rw (p, q, found-symbol, nearest-place o a e d, nearest-word o a e d) (told-done _ _ _ d)
 
 -- the codeword found

@@ -14,19 +14,18 @@ use Rattle.order.specs.declared.Order.{Order}
 use Rattle.order.specs.declared.Refusal.{Refusal}
 use Rattle.order.specs.declared.Refusal.the-variants.{Lost}
 use Rattle.order.specs.Refusals.{refusalNumber, outcomeNumber, numberOf, Told, answer}
-use Rattle.order.specs.Cells.{isOrder}
-use Rattle.order.specs.Order.{listed, orderChecks, orderRecord, noOrder}
+use Rattle.order.specs.Order.{listed, orderChecks, noOrder}
 use Rattle.order.proofs.Refusals.{later-decide, refused-first, all-held, check-holds, check-fails, check-held, all-hold, told-done, told-refused}
-use Rattle.order.proofs.Records.{passed, passed-listed, record-back, recorded-length, recorded-list, recorded-passes}
+use Rattle.order.proofs.Records.{passed, passed-listed, record-back}
 use Rattle.coordinates.specs.declared.Coordinates.{Coordinates}
 use Rattle.coordinates.specs.Calls.{coordinatesOf}
-use Rattle.distance.specs.Distance.{exchange}
 use Rattle.decoder.specs.declared.NearestAnswer.{NearestAnswer}
 use Rattle.decoder.specs.Decoding.{isCodeword, correction}
-use Rattle.decoder.specs.Nearest.{decodeChecks, Found, nothingFound, foundAt, toldNearest, nearestOf}
-use Rattle.decoder.specs.Steps.{syndromeOf, Misread, Exchangeable, exchangedOrder}
+use Rattle.decoder.specs.Nearest.{decodeChecks, exchangedOrder, Found, nothingFound, foundAt, toldNearest, nearestOf}
+use Rattle.decoder.specs.Steps.{syndromeOf, Misread, Exchangeable}
 use Rattle.decoder.proofs.ZeroSyndrome.{code-syndrome}
-use Rattle.decoder.proofs.Decoding.{exchange-order, corrected, reads-clean}
+use Rattle.decoder.proofs.Decoding.{corrected, reads-clean}
+use Rattle.decoder.proofs.Stores.{same-length, same-list}
 
 -- ---- the checks, and lost
 
@@ -61,12 +60,12 @@ module _ (o : Order) where
 
     pub nearest-clean : length (o .cells) ≡ 12 → correction n u ≡ 0 → {k : ℕ} → k ≡ 0 → {x : Coordinates} → x ≡ coordinatesOf o
         → record { number = 0; value = record { word = o; place = k; coordinates = x } } ≡ nearestOf o
-    unfolding foundAt
+    unfolding foundAt exchangedOrder
     nearest-clean w e none same = rw (none, same) (rw (record-back o d w) at (nearest-found 0 e (omega (arith, passed o d .0))))
 
     pub nearest-put-right : (k : ℕ) → correction n u ≡ k → k < n → (w : Order) → w ≡ exchangedOrder o k → (x : Coordinates) → x ≡ coordinatesOf (exchangedOrder o k)
         → record { number = 0; value = record { word = w; place = k; coordinates = x } } ≡ nearestOf o
-    unfolding foundAt exchangedOrder
+    unfolding foundAt
     nearest-put-right k e l w found x same = rw (found, same) (nearest-found k e l)
 
 -- ---- the syndrome
@@ -92,30 +91,19 @@ read-place {o} {s} {k} m e l =
 
 -- the codeword that the order reads as, in its record
 abbrev pub wordNear : Order → Order
-wordNear o = orderRecord (exchange (correction (o .len) (listed o)) (listed o))
+wordNear o = exchangedOrder o (correction (o .len) (listed o))
 
 module _ (o : Order) (d : numberOf (decodeChecks o) ≡ 0) where
   pub decoded-order : numberOf (orderChecks o) ≡ 0
   decoded-order = all-held _ (orderChecks o) d .0
 
-  pub decoded-place : correction (o .len) (listed o) < o .len
-  decoded-place = ltb-true _ _ (check-held _ Lost [] (all-held _ (orderChecks o) d .1) .0)
-
-  listed-order : isOrder (o .len) (exchange (correction (o .len) (listed o)) (listed o)) ≡ true
-  listed-order = exchange-order (o .len) (listed o) (passed-listed o decoded-order) (correction (o .len) (listed o))
-
-  -- it passes the checks of an order of n cells, and is a codeword
-  pub near-passes : numberOf (orderChecks (wordNear o)) ≡ 0
-  near-passes = recorded-passes (o .len) _ listed-order (passed o decoded-order .0) (passed o decoded-order .1)
-
-  pub near-length : wordNear o .len ≡ o .len
-  near-length = recorded-length (o .len) _ listed-order
-
-  pub near-list : listed (wordNear o) ≡ exchange (correction (o .len) (listed o)) (listed o)
-  near-list = recorded-list (o .len) _ listed-order (passed o decoded-order .0) (passed o decoded-order .1)
+  place-found : correction (o .len) (listed o) < o .len
+  place-found = ltb-true _ _ (check-held _ Lost [] (all-held _ (orderChecks o) d .1) .0)
 
   pub near-codeword : isCodeword (wordNear o .len) (listed (wordNear o)) ≡ true
-  near-codeword = rw (near-list, near-length) (corrected (o .len) (listed o) (passed-listed o decoded-order) decoded-place)
+  near-codeword =
+      let k = correction (o .len) (listed o) in
+      rw (same-list o decoded-order k, same-length o decoded-order k) (corrected (o .len) (listed o) (passed-listed o decoded-order) place-found)
 
 -- ---- the answer, taken apart
 

@@ -21,7 +21,8 @@ use Rattle.coordinates.proofs.RoundTrip.{coordinates-low}
 use Rattle.distance.specs.Distance.{exchange}
 use Rattle.distance.proofs.OneCoordinate.{OneMore}
 use Rattle.decoder.specs.Decoding.{isCodeword}
-use Rattle.decoder.specs.Steps.{syndromeOf, correctsBy, Exchangeable, exchangedOrder}
+use Rattle.decoder.specs.Nearest.{exchangedOrder}
+use Rattle.decoder.specs.Steps.{syndromeOf, correctsBy, Exchangeable}
 use Rattle.decoder.proofs.Weight.{place-cells, place-more, place-less, corrects-by}
 use Rattle.decoder.proofs.Stores.{same-length, same-list}
 
@@ -110,9 +111,9 @@ module _ {o : Order} {k a b : ℕ} (t : Neighbours o k a b) where
         → record { len = x .len; values = set (x .values) (i - 1) (coordinateOf v i) } ≡ coordinatesOf (exchangedOrder o k)
     unfolding coordinatesOf
     stored i g others =
-        let len : x .len ≡ exchangedOrder o k .len - 1 = rw (e, same-length o k place) in
+        let len : x .len ≡ exchangedOrder o k .len - 1 = rw (e, same-length o (place .passed) k) in
         let values : set (x .values) (i - 1) (coordinateOf v i) ≡ coordinatesTo 11 (listed (exchangedOrder o k)) =
-        rw (e, same-list o k place) (coordinates-stored 11 u v i g others) in
+        rw (e, same-list o (place .passed) k) (coordinates-stored 11 u v i g others) in
         λ j. record { len = len j; values = values j }
 
     module _ (l : a < b) where

@@ -16,7 +16,8 @@ use Rattle.order.proofs.Tabulate.{getD-tabulate, tabulate-set}
 use Rattle.order.proofs.Listings.{cell}
 use Rattle.order.proofs.Records.{passed, passed-listed, passed-order, record-back}
 use Rattle.distance.specs.Distance.{exchange}
-use Rattle.decoder.specs.Steps.{Exchangeable, exchangedOrder}
+use Rattle.decoder.specs.Nearest.{exchangedOrder}
+use Rattle.decoder.specs.Steps.{Exchangeable}
 use Rattle.order.proofs.Records.{recorded-length, recorded-list, recorded-passes}
 use Rattle.decoder.proofs.Decoding.{exchange-order}
 
@@ -64,9 +65,9 @@ stored-exchange o (suc j) e w =
 
 -- ---- the order that is made
 
-module _ (o : Order) (k : ℕ) (e : Exchangeable o k) where
+module _ (o : Order) (d : numberOf (orderChecks o) ≡ 0) (k : ℕ) where
   ordered : isOrder (o .len) (exchange k (listed o)) ≡ true
-  ordered = exchange-order (o .len) (listed o) (passed-listed o (e .passed)) k
+  ordered = exchange-order (o .len) (listed o) (passed-listed o d) k
 
   pub same-length : exchangedOrder o k .len ≡ o .len
   unfolding exchangedOrder
@@ -74,8 +75,8 @@ module _ (o : Order) (k : ℕ) (e : Exchangeable o k) where
 
   pub same-list : listed (exchangedOrder o k) ≡ exchange k (listed o)
   unfolding exchangedOrder
-  same-list = recorded-list (o .len) _ ordered (passed o (e .passed) .0) (passed o (e .passed) .1)
+  same-list = recorded-list (o .len) _ ordered (passed o d .0) (passed o d .1)
 
   pub exchanged-passes : numberOf (orderChecks (exchangedOrder o k)) ≡ 0
   unfolding exchangedOrder
-  exchanged-passes = recorded-passes (o .len) _ ordered (passed o (e .passed) .0) (passed o (e .passed) .1)
+  exchanged-passes = recorded-passes (o .len) _ ordered (passed o d .0) (passed o d .1)

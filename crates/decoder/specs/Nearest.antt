@@ -3,6 +3,7 @@
 --   toldTest          what an answer says: its number, and yes or no
 --   isCodewordOf o    the answer to `is_codeword`
 --   decodeChecks o    the checks of an order that is decoded: 1, 4, 7
+--   exchangedOrder    the record of an order with the cells of ranks k and k + 1 exchanged; place 0 exchanges nothing
 --   Found             a codeword, the place whose exchange leads to it, 0 for none, and its coordinates; `nothingFound` beside a refusal: zeros
 --   foundAt o k       what is found where the exchange at place k makes the order a codeword
 --   toldNearest       what an answer says: its number, and what was found
@@ -38,6 +39,9 @@ isCodewordOf o = answer (orderChecks o) (isCodeword (o .len) (listed o)) false
 abbrev pub decodeChecks : Order → List (Bool × Refusal)
 decodeChecks o = orderChecks o ++ (ltb (correction (o .len) (listed o)) (o .len), Lost) ∷ []
 
+unfoldable pub exchangedOrder : Order → ℕ → Order
+exchangedOrder o k = orderRecord (exchange k (listed o))
+
 pub record Found : Type 0 where
   pub word : Order
   pub place : ℕ
@@ -47,7 +51,7 @@ abbrev pub nothingFound : Found
 nothingFound = record { word = noOrder; place = 0; coordinates = noCoordinates }
 
 unfoldable pub foundAt : Order → ℕ → Found
-foundAt o k = let w = orderRecord (exchange k (listed o)) in record { word = w; place = k; coordinates = coordinatesOf w }
+foundAt o k = record { word = exchangedOrder o k; place = k; coordinates = coordinatesOf (exchangedOrder o k) }
 
 abbrev pub toldNearest : NearestAnswer → Told Found
 toldNearest r = record { number = outcomeNumber (r .outcome); value = record { word = r .word; place = r .place; coordinates = r .coordinates } }

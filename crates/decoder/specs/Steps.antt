@@ -4,7 +4,6 @@
 --   Misread o s       an order of n cells whose syndrome is s, and not 0
 --   correctsBy        the exchange of a cell and the one just below it makes the syndrome s 0
 --   Exchangeable o k  an order of n cells, and k is a place from 1 to n - 1
---   exchangedOrder    the record with the cells of ranks k and k + 1 exchanged
 use mathlib.Core.Path.{_≡_}
 use mathlib.Core.Bool.{Bool, cond}
 use mathlib.Core.List.{List}
@@ -12,8 +11,7 @@ use Prim.Native.Nat.{ℕ, _+_, _-_, _%_, _≤_, _<_}
 use lib.Dec.{ltb, eqb}
 use Rattle.order.specs.declared.Order.{Order}
 use Rattle.order.specs.Refusals.{numberOf}
-use Rattle.order.specs.Order.{listed, orderChecks, orderRecord}
-use Rattle.distance.specs.Distance.{exchange}
+use Rattle.order.specs.Order.{listed, orderChecks}
 use Rattle.coordinates.specs.Coordinates.{coordinatesTo}
 use Rattle.decoder.specs.Decoding.{modulus, weight}
 
@@ -32,6 +30,3 @@ pub record Exchangeable (o : Order) (k : ℕ) : Type 0 where
   pub passed : numberOf (orderChecks o) ≡ 0
   pub first : 1 ≤ k
   pub last : k < o .len
-
-unfoldable pub exchangedOrder : Order → ℕ → Order
-exchangedOrder o k = orderRecord (exchange k (listed o))

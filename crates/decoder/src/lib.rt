@@ -13,8 +13,8 @@ ghost use Rattle.order.specs.Refusals.{refusalNumber};
 ghost use Rattle.order.specs.Order.{listed};
 ghost use Rattle.coordinates.specs.Calls.{coordinatesOf};
 ghost use Rattle.decoder.specs.Decoding.{modulus, weight, correction};
-ghost use Rattle.decoder.specs.Nearest.{toldTest, isCodewordOf, nothingFound, toldNearest, nearestOf};
-ghost use Rattle.decoder.specs.Steps.{Misread, correctsBy, Exchangeable, exchangedOrder};
+ghost use Rattle.decoder.specs.Nearest.{toldTest, isCodewordOf, exchangedOrder, nothingFound, toldNearest, nearestOf};
+ghost use Rattle.decoder.specs.Steps.{Misread, correctsBy, Exchangeable};
 
 pub enum TestAnswer {
     Refused(Refusal),
