@@ -10,35 +10,11 @@ use Rattle.engine.proofs.Answers.{first-refused, second-refused, both-r
 use Rattle.engine.proofs.alike.Statement.{statement}
 use Rattle.engine.proofs.alike.Tie as tie
 
-read-requires : tie.Need-read-requires
-read-requires c κs = search needs
-
-enum-known-first : tie.Need-enum-known-first
-enum-known-first c = search needs
-
-enum-told : tie.Need-enum-told
-enum-told c = search needs
-
-refused-requires : tie.Need-refused-requires
-refused-requires c κs = search needs
-
 returns : tie.Need-returns
 returns c =
     let a = c .before .before .before in
     let s = a .before .args in
     c .refused .ensures ∙ first-refused (s .g) (s .h) (a .read .result) (a .read .ensures) (c .before .enum-told .given .1)
-
-read-requires-2 : tie.Need-read-requires-2
-read-requires-2 c κs = search needs
-
-enum-known-second : tie.Need-enum-known-second
-enum-known-second c = search needs
-
-enum-told-2 : tie.Need-enum-told-2
-enum-told-2 c = search needs
-
-refused-requires-2 : tie.Need-refused-requires-2
-refused-requires-2 c κs = search needs
 
 returns-2 : tie.Need-returns-2
 returns-2 c =
@@ -71,15 +47,15 @@ pub alike-spec : {M : Type 1} → statement M
 alike-spec =
     tie.close
     (tie.spec
-    read-requires
-    enum-known-first
-    enum-told
-    refused-requires
+    (search needs)
+    (search needs)
+    (search needs)
+    (search needs)
     returns
-    read-requires-2
-    enum-known-second
-    enum-told-2
-    refused-requires-2
+    (search needs)
+    (search needs)
+    (search needs)
+    (search needs)
     returns-2
     returns-3
     returns-4)

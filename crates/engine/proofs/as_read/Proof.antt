@@ -4,12 +4,6 @@ use borrow.Author.Needs.{needs}
 use Rattle.engine.proofs.as_read.Statement.{statement}
 use Rattle.engine.proofs.as_read.Tie as tie
 
-enum-known-answer : tie.Need-enum-known-answer
-enum-known-answer c = search needs
-
-enum-known-answer-2 : tie.Need-enum-known-answer-2
-enum-known-answer-2 c = search needs
-
 returns : tie.Need-returns
 returns c = rw (c .before .answer .given .1)
 
@@ -17,4 +11,4 @@ returns-2 : tie.Need-returns-2
 returns-2 c = rw (c .before .answer2 .given .1)
 
 pub as-read-spec : {M : Type 1} → statement M
-as-read-spec = tie.close (tie.spec enum-known-answer enum-known-answer-2 returns returns-2)
+as-read-spec = tie.close (tie.spec (search needs) (search needs) returns returns-2)

@@ -10,15 +10,6 @@ use Rattle.engine.proofs.Answers.{sense-number, marked-refused, marked-
 use Rattle.engine.proofs.marked_order.Statement.{statement}
 use Rattle.engine.proofs.marked_order.Tie as tie
 
-sense-requires : tie.Need-sense-requires
-sense-requires c κs = search needs
-
-enum-told : tie.Need-enum-told
-enum-told c = search needs
-
-enum-told-2 : tie.Need-enum-told-2
-enum-told-2 c = search needs
-
 returns : tie.Need-returns
 returns c =
     let told = c .enum-told2 .given in
@@ -28,9 +19,6 @@ returns c =
 -- the record has passed
 passed : (c : tie.After-enum-told) → numberOf (groupChecks (c .before .before .before .args .g)) ≡ 0
 passed c = accepted (sense-number _ (c .before .before .sense .result) (c .before .before .sense .ensures)) (c .enum-told .given .1)
-
-no-order-requires : tie.Need-no-order-requires
-no-order-requires c κs = search needs
 
 returns-2 : tie.Need-returns-2
 returns-2 c =
@@ -43,4 +31,4 @@ returns-3 c =
     d .before .before .sense .ensures ∙ marked-done _ (passed d) (not-false _ (c .if1 .left))
 
 pub marked-order-spec : {M : Type 1} → statement M
-marked-order-spec = tie.close (tie.spec sense-requires enum-told enum-told-2 returns no-order-requires returns-2 returns-3)
+marked-order-spec = tie.close (tie.spec (search needs) (search needs) (search needs) returns (search needs) returns-2 returns-3)

@@ -9,26 +9,11 @@ use Rattle.engine.proofs.Answers.{marked-number, marked-record, read-re
 use Rattle.engine.proofs.read.Statement.{statement}
 use Rattle.engine.proofs.read.Tie as tie
 
-marked-order-requires : tie.Need-marked-order-requires
-marked-order-requires c κs = search needs
-
-enum-known-outcome : tie.Need-enum-known-outcome
-enum-known-outcome c = search needs
-
 returns : tie.Need-returns
 returns c =
     let a = c .before .before .before .marked-order in
     let told = c .before .outcome .given in
     read-refused _ (told .0 .0) (sym (marked-number _ (a .result) (a .ensures)) ∙ ap outcomeNumber (told .1))
-
-enum-told : tie.Need-enum-told
-enum-told c = search needs
-
-decode-requires : tie.Need-decode-requires
-decode-requires c κs = search needs
-
-as-read-requires : tie.Need-as-read-requires
-as-read-requires c κs = search needs
 
 returns-2 : tie.Need-returns-2
 returns-2 c =
@@ -38,4 +23,4 @@ returns-2 c =
     c .as-read .ensures ∙ c .before .decode .ensures ∙ ap decodeOf (marked-record _ (a .result) (a .ensures) passed) ∙ read-decoded _ passed
 
 pub read-spec : {M : Type 1} → statement M
-read-spec = tie.close (tie.spec marked-order-requires enum-known-outcome returns enum-told decode-requires as-read-requires returns-2)
+read-spec = tie.close (tie.spec (search needs) (search needs) returns (search needs) (search needs) (search needs) returns-2)

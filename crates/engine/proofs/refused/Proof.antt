@@ -4,12 +4,6 @@ use borrow.Author.Needs.{needs}
 use Rattle.engine.proofs.refused.Statement.{statement}
 use Rattle.engine.proofs.refused.Tie as tie
 
-enum-known-answer : tie.Need-enum-known-answer
-enum-known-answer c = search needs
-
-enum-told : tie.Need-enum-told
-enum-told c = search needs
-
 returns : tie.Need-returns
 returns c = rw (c .before .answer .given .1)
 
@@ -17,4 +11,4 @@ returns-2 : tie.Need-returns-2
 returns-2 c = rw (c .enum-told .given .1)
 
 pub refused-spec : {M : Type 1} → statement M
-refused-spec = tie.close (tie.spec enum-known-answer enum-told returns returns-2)
+refused-spec = tie.close (tie.spec (search needs) (search needs) returns returns-2)

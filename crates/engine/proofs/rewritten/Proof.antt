@@ -7,15 +7,6 @@ use Rattle.engine.specs.Scrub.{Step}
 use Rattle.engine.proofs.rewritten.Statement.{statement}
 use Rattle.engine.proofs.rewritten.Tie as tie
 
-enum-told : tie.Need-enum-told
-enum-told c = search needs
-
-enum-told-2 : tie.Need-enum-told-2
-enum-told-2 c = search needs
-
-unchanged-requires : tie.Need-unchanged-requires
-unchanged-requires c κs = search needs
-
 returns : tie.Need-returns
 returns c = let told = c .before .enum-told2 .given in c .unchanged .ensures ∙ rw (told .1, refused-zeros {A = Step} (told .0 .0) _ _)
 
@@ -23,4 +14,4 @@ returns-2 : tie.Need-returns-2
 returns-2 c = rw (c .before .before .enum-told .given .1)
 
 pub rewritten-spec : {M : Type 1} → statement M
-rewritten-spec = tie.close (tie.spec enum-told enum-told-2 unchanged-requires returns returns-2)
+rewritten-spec = tie.close (tie.spec (search needs) (search needs) (search needs) returns returns-2)

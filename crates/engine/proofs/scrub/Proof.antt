@@ -16,18 +16,6 @@ use Rattle.engine.proofs.scrub.Tie as tie
 abbrev number : Told Reading → ℕ
 number t = t .number
 
-marked-order-requires : tie.Need-marked-order-requires
-marked-order-requires c κs = search needs
-
-enum-told : tie.Need-enum-told
-enum-told c = search needs
-
-enum-told-2 : tie.Need-enum-told-2
-enum-told-2 c = search needs
-
-unchanged-requires : tie.Need-unchanged-requires
-unchanged-requires c κs = search needs
-
 returns : tie.Need-returns
 returns c =
     let told = c .before .enum-told2 .given in
@@ -39,9 +27,6 @@ returns c =
 passed : (c : tie.After-enum-told) → numberOf (markedChecks (c .before .before .before .args .g)) ≡ 0
 passed c = accepted (marked-number _ (c .before .before .marked-order .result) (c .before .before .marked-order .ensures)) (c .enum-told .given .1)
 
-corrected-requires : tie.Need-corrected-requires
-corrected-requires c κs = search needs
-
 -- the sensed order is put right
 found : (c : tie.After-corrected) →
     toldCorrected (c .corrected .result) ≡ correctedOf (orderRecord (sensedOrder (c .before .before .before .before .before .args .g)))
@@ -50,30 +35,12 @@ found c =
     let a = e .before .before .marked-order in
     c .corrected .ensures ∙ ap correctedOf (marked-record _ (a .result) (a .ensures) (passed e))
 
-as-read-requires : tie.Need-as-read-requires
-as-read-requires c κs = search needs
-
-enum-known-answer : tie.Need-enum-known-answer
-enum-known-answer c = search needs
-
-enum-told-3 : tie.Need-enum-told-3
-enum-told-3 c = search needs
-
-from-read-requires : tie.Need-from-read-requires
-from-read-requires c κs = search needs
-
 returns-2 : tie.Need-returns-2
 returns-2 c =
     let a = c .before .before .before in
     let f = a .before in
     c .from-read .ensures
     ∙ scrub-lost _ (passed (f .before .before)) (f .corrected .result) (found f) (a .as-read .result) (a .as-read .ensures) (c .before .enum-told3 .given .1)
-
-write-requires : tie.Need-write-requires
-write-requires c κs = search needs
-
-rewritten-requires : tie.Need-rewritten-requires
-rewritten-requires c κs = search needs
 
 returns-3 : tie.Need-returns-3
 returns-3 c =
@@ -87,17 +54,17 @@ pub scrub-spec : {M : Type 1} → statement M
 scrub-spec =
     tie.close
     (tie.spec
-    marked-order-requires
-    enum-told
-    enum-told-2
-    unchanged-requires
+    (search needs)
+    (search needs)
+    (search needs)
+    (search needs)
     returns
-    corrected-requires
-    as-read-requires
-    enum-known-answer
-    enum-told-3
-    from-read-requires
+    (search needs)
+    (search needs)
+    (search needs)
+    (search needs)
+    (search needs)
     returns-2
-    write-requires
-    rewritten-requires
+    (search needs)
+    (search needs)
     returns-3)

@@ -8,34 +8,10 @@ use Rattle.engine.proofs.Answers.{store-refused, store-by-write, store-
 use Rattle.engine.proofs.store.Statement.{statement}
 use Rattle.engine.proofs.store.Tie as tie
 
-codeword-requires : tie.Need-codeword-requires
-codeword-requires c κs = search needs
-
-enum-told : tie.Need-enum-told
-enum-told c = search needs
-
-enum-told-2 : tie.Need-enum-told-2
-enum-told-2 c = search needs
-
-check-requires : tie.Need-check-requires
-check-requires c κs = search needs
-
-enum-told-3 : tie.Need-enum-told-3
-enum-told-3 c = search needs
-
-enum-told-4 : tie.Need-enum-told-4
-enum-told-4 c = search needs
-
-unwritten-requires : tie.Need-unwritten-requires
-unwritten-requires c κs = search needs
-
 returns : tie.Need-returns
 returns c =
     let a = c .before .before .before in
     c .unwritten .ensures ∙ store-refused _ _ (a .check .ensures) (c .before .enum-told4 .given .1)
-
-unwritten-requires-2 : tie.Need-unwritten-requires-2
-unwritten-requires-2 c κs = search needs
 
 returns-2 : tie.Need-returns-2
 returns-2 c =
@@ -45,9 +21,6 @@ returns-2 c =
     let a = w .before .args in
     c .unwritten2 .ensures
     ∙ store-no-symbol (a .g) (a .symbol) (accepted (k .check .ensures) done) (w .codeword .result) (w .codeword .ensures) (k .before .enum-told2 .given .1)
-
-write-requires : tie.Need-write-requires
-write-requires c κs = search needs
 
 returns-3 : tie.Need-returns-3
 returns-3 c =
@@ -65,15 +38,15 @@ pub store-spec : {M : Type 1} → statement M
 store-spec =
     tie.close
     (tie.spec
-    codeword-requires
-    enum-told
-    enum-told-2
-    check-requires
-    enum-told-3
-    enum-told-4
-    unwritten-requires
+    (search needs)
+    (search needs)
+    (search needs)
+    (search needs)
+    (search needs)
+    (search needs)
+    (search needs)
     returns
-    unwritten-requires-2
+    (search needs)
     returns-2
-    write-requires
+    (search needs)
     returns-3)

@@ -4,11 +4,8 @@ use borrow.Author.Needs.{needs}
 use Rattle.engine.proofs.unchanged.Statement.{statement}
 use Rattle.engine.proofs.unchanged.Tie as tie
 
-zero-pushes-requires : tie.Need-zero-pushes-requires
-zero-pushes-requires c κs = search needs
-
 returns : tie.Need-returns
 returns c = rw (c .zero-pushes .ensures)
 
 pub unchanged-spec : {M : Type 1} → statement M
-unchanged-spec = tie.close (tie.spec zero-pushes-requires returns)
+unchanged-spec = tie.close (tie.spec (search needs) returns)

@@ -4,11 +4,8 @@ use borrow.Author.Needs.{needs}
 use Rattle.writing.proofs.unwritten.Statement.{statement}
 use Rattle.writing.proofs.unwritten.Tie as tie
 
-zero-pushes-requires : tie.Need-zero-pushes-requires
-zero-pushes-requires c κs = search needs
-
 returns : tie.Need-returns
 returns c = rw (c .zero-pushes .ensures)
 
 pub unwritten-spec : {M : Type 1} → statement M
-unwritten-spec = tie.close (tie.spec zero-pushes-requires returns)
+unwritten-spec = tie.close (tie.spec (search needs) returns)
