@@ -5,7 +5,7 @@ use mathlib.Core.List.{[], _∷_}
 use Rattle.order.specs.Refusals as refusals
 use Rattle.order.specs.Cells.{eachOnce, isOrder, allZero, isListing}
 use Rattle.order.specs.Order.{cellNumbers, isOrderOf, orderRecord, noOrder}
-use Rattle.code.specs.Calls.{wordsOf, codewordOf, noReading, decodeOf}
+use Rattle.code.specs.Symbols.{wordsOf, codewordOf, noReading, decodeOf}
 
 -- a size that is none; a cell doubled, and two cells
 pub refused :

@@ -17,12 +17,12 @@ use Rattle.order.proofs.Cells.{lt-cases}
 use Rattle.order.proofs.Tabulate.{length-tabulate, getD-tabulate}
 use Rattle.order.proofs.Refusals.{told-done, sized-holds}
 use Rattle.coordinates.specs.Coordinates.{coordinateOf, coordinatesTo, orderFrom, inRange}
-use Rattle.coordinates.specs.Calls.{coordinateAt, orderByCoordinates, coordinateChecks, orderOfCoordinates}
+use Rattle.coordinates.specs.Conversion.{coordinateAt, orderByCoordinates, coordinateChecks, orderOfCoordinates}
 use Rattle.coordinates.proofs.Range.{limit-low, range-at, all-in-range}
 use Rattle.coordinates.proofs.RoundTrip.{order-ext, coordinate-back, coordinates-low, coordinates-in-range, order-of-coordinates, order-of-any}
 use Rattle.decoder.specs.Decoding.{modulus, leaves, isCodeword}
 use Rattle.code.specs.Words.{K, wordAt, wordNumber}
-use Rattle.code.specs.Calls.{wordOf, codewordOf}
+use Rattle.code.specs.Symbols.{wordOf, codewordOf}
 use Rattle.code.specs.Steps.{held, isWord}
 use Rattle.code.proofs.Tests.{is-true}
 use Rattle.code.proofs.Laws.{word-of, of-word, word-is-word, number-of-word, word-of-number}

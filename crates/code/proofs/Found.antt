@@ -21,7 +21,7 @@ use Rattle.decoder.specs.Decoding.{isCodeword, correction, Nearby}
 use Rattle.code.specs.declared.Verdict.{Verdict}
 use Rattle.code.specs.declared.Verdict.the-variants.{Clean}
 use Rattle.code.specs.Words.{symbolOf}
-use Rattle.code.specs.Calls.{Reading, verdictAt, decodeOf}
+use Rattle.code.specs.Symbols.{Reading, verdictAt, decodeOf}
 use Rattle.order.proofs.Cells.{lt-cases}
 use Rattle.decoder.proofs.Decoding.{reads, reads-clean}
 use Rattle.code.proofs.Reading.{decode-lost, decode-found}

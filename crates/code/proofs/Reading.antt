@@ -15,7 +15,7 @@ use Rattle.order.proofs.Refusals.{told-done, told-refused, size-in}
 use Rattle.order.proofs.Records.{passed, passed-listed}
 use Rattle.coordinates.specs.declared.Coordinates.{Coordinates}
 use Rattle.coordinates.specs.Coordinates.{coordinatesTo}
-use Rattle.coordinates.specs.Calls.{coordinatesOf}
+use Rattle.coordinates.specs.Conversion.{coordinatesOf}
 use Rattle.distance.specs.Distance.{exchange}
 use Rattle.decoder.specs.declared.NearestAnswer.{NearestAnswer}
 use Rattle.decoder.specs.Decoding.{isCodeword, correction}
@@ -27,7 +27,7 @@ use Rattle.decoder.proofs.NearestWord.{lost-number, found-number, wordNear, dec
 use Rattle.code.specs.declared.Verdict.{Verdict}
 use Rattle.code.specs.declared.Verdict.the-variants.{Clean, PutRight}
 use Rattle.code.specs.Words.{wordNumber, symbolOf}
-use Rattle.code.specs.Calls.{Reading, WordRead, noReading, verdictAt, readingAt, decodeOf, correctedOf}
+use Rattle.code.specs.Symbols.{Reading, WordRead, noReading, verdictAt, readingAt, decodeOf, correctedOf}
 use Rattle.code.specs.Steps.{isWord}
 use Rattle.code.proofs.Codewords.{codeword-word}
 

@@ -4,7 +4,7 @@ use Prim.Native.Nat.{ℕ}
 use mathlib.Core.Path.{_≡_, refl}
 use mathlib.Core.Bool.{true}
 use Rattle.order.specs.Refusals.{checkRow, inRow}
-use Rattle.code.specs.Calls.{codewordChecks}
+use Rattle.code.specs.Symbols.{codewordChecks}
 
 pub codeword-in-row : (n symbol : ℕ) → inRow (codewordChecks n symbol) checkRow ≡ true
 codeword-in-row n symbol = refl

@@ -7,10 +7,10 @@ use mathlib.Core.List.{List}
 use mathlib.Core.Option.{some}
 use Rattle.order.specs.Order.{orderRecord}
 use Rattle.coordinates.specs.Coordinates.{orderFrom}
-use Rattle.coordinates.specs.Calls.{coordinateAt}
+use Rattle.coordinates.specs.Conversion.{coordinateAt}
 use Rattle.distance.specs.Distance.{exchange}
 use Rattle.code.specs.Words.{K, wordAt, symbolOf}
-use Rattle.code.specs.Calls.{verdictAt, decodeOf}
+use Rattle.code.specs.Symbols.{verdictAt, decodeOf}
 use Rattle.code.proofs.Codewords.{symbol-order, symbol-codeword, symbol-back}
 use Rattle.order.proofs.Records.{recorded-length, recorded-list, recorded-passes}
 use Rattle.decoder.proofs.Decoding.{exchange-order, reads-exchange}

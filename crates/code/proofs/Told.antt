@@ -11,7 +11,7 @@ use Rattle.code.specs.declared.WordsAnswer.the-variants as words
 use Rattle.code.specs.declared.DecodeAnswer.{DecodeAnswer}
 use Rattle.code.specs.declared.DecodeAnswer.the-variants as decode
 use Rattle.code.specs.declared.CorrectedAnswer.{CorrectedAnswer}
-use Rattle.code.specs.Calls.{Reading, WordRead, toldWords, toldDecode, toldCorrected}
+use Rattle.code.specs.Symbols.{Reading, WordRead, toldWords, toldDecode, toldCorrected}
 use Rattle.code.proofs.Reading.{readingTold}
 
 pub told-words : (a b : WordsAnswer) → toldWords a ≡ toldWords b → a ≡ b

@@ -1,5 +1,5 @@
 pub mod Words
-pub mod Calls
+pub mod Symbols
 pub mod Tails
 pub mod Table
 pub mod Steps

@@ -20,7 +20,7 @@ ghost use Rattle.order.specs.Refusals.{isSize};
 ghost use Rattle.order.specs.Order.{toldOrder};
 ghost use Rattle.decoder.specs.Decoding.{modulus};
 ghost use Rattle.code.specs.Words.{K, wordAt, wordNumber};
-ghost use Rattle.code.specs.Calls.{toldWords, wordsOf, codewordOf, verdictAt, toldDecode, decodeOf, toldCorrected, correctedOf};
+ghost use Rattle.code.specs.Symbols.{toldWords, wordsOf, codewordOf, verdictAt, toldDecode, decodeOf, toldCorrected, correctedOf};
 ghost use Rattle.code.specs.Tails.{tails, Entry, Block, owed, before};
 ghost use Rattle.code.specs.Table.{tableRight};
 ghost use Rattle.code.specs.Steps.{held, isWord, Choosing, Chosen};

@@ -6,7 +6,7 @@ use Rattle.order.specs.Refusals.{numberOf, answer}
 use Rattle.order.specs.Cells.{eachOnce, isOrder, allZero, isListing}
 use Rattle.order.specs.Order.{cellNumbers, isOrderOf, orderRecord, noOrder}
 use Rattle.coordinates.specs.Coordinates.{coordinateOf, coordinatesTo, orderFrom, inRange}
-use Rattle.coordinates.specs.Calls.{coordinatesOf, orderByCoordinates, noCoordinates, coordinatesOfOrder, orderOfCoordinates}
+use Rattle.coordinates.specs.Conversion.{coordinatesOf, orderByCoordinates, noCoordinates, coordinatesOfOrder, orderOfCoordinates}
 
 -- [3,4,1,2] both ways, a cell doubled, coordinate 2 above 2, and a coordinate past the length
 answers :

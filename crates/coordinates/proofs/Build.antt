@@ -17,7 +17,7 @@ use Rattle.order.proofs.Tabulate.{getD-tabulate}
 use Rattle.order.proofs.Listings.{cell}
 use Rattle.coordinates.specs.declared.Coordinates.{Coordinates}
 use Rattle.coordinates.specs.Coordinates.{insertAt, orderFrom, inRange}
-use Rattle.coordinates.specs.Calls.{coordinateAt, orderByCoordinates}
+use Rattle.coordinates.specs.Conversion.{coordinateAt, orderByCoordinates}
 use Rattle.coordinates.proofs.Insert.{length-insert, insert-before, insert-here, insert-after, Moved, moved-none}
 use Rattle.coordinates.proofs.Range.{value-low}
 use Rattle.coordinates.proofs.RoundTrip.{order-is}

@@ -17,7 +17,7 @@ use Rattle.order.proofs.Refusals.{told-done, sized-done, sized-holds, size-in}
 use Rattle.order.proofs.Records.{record-listed, record-order, record-back, passed, passed-listed, passed-order}
 use Rattle.coordinates.specs.declared.Coordinates.{Coordinates}
 use Rattle.coordinates.specs.Coordinates.{coordinateOf, coordinatesTo, orderFrom, inRange}
-use Rattle.coordinates.specs.Calls.{coordinatesOf, coordinateAt, orderByCoordinates, coordinateChecks, coordinatesOfOrder, orderOfCoordinates}
+use Rattle.coordinates.specs.Conversion.{coordinatesOf, coordinateAt, orderByCoordinates, coordinateChecks, coordinatesOfOrder, orderOfCoordinates}
 use Rattle.coordinates.proofs.Range.{value-low, value-past}
 use Rattle.coordinates.proofs.RoundTrip.{coordinate-le, coordinate-past, order-ext, order-back, order-is, coordinate-back, coordinates-in-range}
 

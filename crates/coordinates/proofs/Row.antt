@@ -4,7 +4,7 @@ use mathlib.Core.Path.{_≡_, refl}
 use mathlib.Core.Bool.{true}
 use Rattle.order.specs.Refusals.{checkRow, inRow}
 use Rattle.coordinates.specs.declared.Coordinates.{Coordinates}
-use Rattle.coordinates.specs.Calls.{coordinateChecks}
+use Rattle.coordinates.specs.Conversion.{coordinateChecks}
 
 pub coordinates-in-row : (x : Coordinates) → inRow (coordinateChecks x) checkRow ≡ true
 coordinates-in-row x = refl

@@ -5,7 +5,7 @@ use Rattle.order.specs.Refusals.{Told}
 use Rattle.order.proofs.Refusals.{outcome-by-number}
 use Rattle.coordinates.specs.declared.Coordinates.{Coordinates}
 use Rattle.coordinates.specs.declared.CoordinatesAnswer.{CoordinatesAnswer}
-use Rattle.coordinates.specs.Calls.{toldCoordinates}
+use Rattle.coordinates.specs.Conversion.{toldCoordinates}
 
 pub told-coordinates : (a b : CoordinatesAnswer) → toldCoordinates a ≡ toldCoordinates b → a ≡ b
 told-coordinates a b e =

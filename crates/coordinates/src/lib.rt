@@ -16,7 +16,7 @@ ghost use Rattle.order.specs.Refusals.{outcomeNumber, numberOf};
 ghost use Rattle.order.specs.Cells.{isOrder};
 ghost use Rattle.order.specs.Order.{listed, toldOrder};
 ghost use Rattle.coordinates.specs.Coordinates.{limit, inRange};
-ghost use Rattle.coordinates.specs.Calls.{coordinatesOf, orderByCoordinates, coordinateChecks, noCoordinates, toldCoordinates, coordinatesOfOrder, orderOfCoordinates};
+ghost use Rattle.coordinates.specs.Conversion.{coordinatesOf, orderByCoordinates, coordinateChecks, noCoordinates, toldCoordinates, coordinatesOfOrder, orderOfCoordinates};
 
 // Coordinate i of an order at index i - 1. Indices from `len` on hold 0.
 pub struct Coordinates {

@@ -18,7 +18,7 @@ use Rattle.order.specs.Order.{listed, orderChecks, noOrder}
 use Rattle.order.proofs.Refusals.{later-decide, refused-first, all-held, check-holds, check-fails, check-held, all-hold, told-done, told-refused}
 use Rattle.order.proofs.Records.{passed, passed-listed, record-back}
 use Rattle.coordinates.specs.declared.Coordinates.{Coordinates}
-use Rattle.coordinates.specs.Calls.{coordinatesOf}
+use Rattle.coordinates.specs.Conversion.{coordinatesOf}
 use Rattle.decoder.specs.declared.NearestAnswer.{NearestAnswer}
 use Rattle.decoder.specs.Decoding.{isCodeword, correction}
 use Rattle.decoder.specs.Nearest.{decodeChecks, exchangedOrder, Found, nothingFound, foundAt, toldNearest, nearestOf}

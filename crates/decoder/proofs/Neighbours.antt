@@ -16,7 +16,7 @@ use Rattle.order.proofs.Records.{passed, passed-listed, passed-order}
 use Rattle.order.proofs.Tabulate.{getD-tabulate, tabulate-set}
 use Rattle.coordinates.specs.declared.Coordinates.{Coordinates}
 use Rattle.coordinates.specs.Coordinates.{coordinateOf, coordinatesTo}
-use Rattle.coordinates.specs.Calls.{coordinatesOf}
+use Rattle.coordinates.specs.Conversion.{coordinatesOf}
 use Rattle.coordinates.proofs.RoundTrip.{coordinates-low}
 use Rattle.distance.specs.Distance.{exchange}
 use Rattle.distance.proofs.OneCoordinate.{OneMore}

@@ -18,7 +18,7 @@ use Rattle.order.specs.declared.Refusal.the-variants.{Lost}
 use Rattle.order.specs.Refusals.{refusalNumber, outcomeNumber, Told, answer}
 use Rattle.order.specs.Order.{listed, orderChecks, orderRecord, noOrder}
 use Rattle.coordinates.specs.declared.Coordinates.{Coordinates}
-use Rattle.coordinates.specs.Calls.{coordinatesOf, noCoordinates}
+use Rattle.coordinates.specs.Conversion.{coordinatesOf, noCoordinates}
 use Rattle.distance.specs.Distance.{exchange}
 use Rattle.decoder.specs.declared.TestAnswer.{TestAnswer}
 use Rattle.decoder.specs.declared.TestAnswer.the-variants.{Refused, Tested}

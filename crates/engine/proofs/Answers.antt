@@ -22,7 +22,7 @@ use Rattle.order.proofs.Records.{passed, recorded-length, recorded-list, record
 use Rattle.decoder.specs.Decoding.{correction}
 use Rattle.code.specs.declared.Verdict.{Verdict}
 use Rattle.code.specs.Words.{K}
-use Rattle.code.specs.Calls.{wordOf, Reading, noReading, readingAt, codewordChecks, codewordOf, decodeOf}
+use Rattle.code.specs.Symbols.{wordOf, Reading, noReading, readingAt, codewordChecks, codewordOf, decodeOf}
 use Rattle.code.proofs.Codewords.{symbol-order}
 use Rattle.group.specs.declared.Group.{Group}
 use Rattle.group.specs.Record.{groupChecks}

@@ -28,7 +28,7 @@ use Rattle.decoder.specs.Decoding.{Nearby}
 use Rattle.decoder.proofs.Decoding.{reads, reads-lost}
 use Rattle.code.specs.declared.Verdict.the-variants.{Clean, PutRight}
 use Rattle.code.specs.Words.{K, symbolOf}
-use Rattle.code.specs.Calls.{wordOf, verdictAt, readingAt, decodeOf}
+use Rattle.code.specs.Symbols.{wordOf, verdictAt, readingAt, decodeOf}
 use Rattle.code.proofs.Symbols.{symbol-reads}
 use Rattle.group.specs.declared.Group.{Group}
 use Rattle.group.specs.Record.{groupChecks}

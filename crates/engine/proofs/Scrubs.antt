@@ -30,7 +30,7 @@ use Rattle.code.specs.declared.Verdict.{Verdict}
 use Rattle.code.specs.declared.Verdict.the-variants.{Clean}
 use Rattle.code.specs.declared.CorrectedAnswer.{CorrectedAnswer}
 use Rattle.code.specs.Words.{K, symbolOf}
-use Rattle.code.specs.Calls.{wordOf, Reading, WordRead, readingAt, toldDecode, toldCorrected, correctedOf}
+use Rattle.code.specs.Symbols.{wordOf, Reading, WordRead, readingAt, toldDecode, toldCorrected, correctedOf}
 use Rattle.code.proofs.Laws.{number-below}
 use Rattle.code.proofs.Codewords.{codeword-word, number-of-codeword}
 use Rattle.code.proofs.Reading.{readingTold, decode-part, corrected-word}

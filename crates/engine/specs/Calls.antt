@@ -21,7 +21,7 @@ use Rattle.order.specs.Refusals.{refusalNumber, Told, answer}
 use Rattle.order.specs.Order.{orderRecord, noOrder}
 use Rattle.decoder.specs.Decoding.{correction}
 use Rattle.code.specs.Words.{K}
-use Rattle.code.specs.Calls.{wordOf, Reading, noReading, readingAt}
+use Rattle.code.specs.Symbols.{wordOf, Reading, noReading, readingAt}
 use Rattle.group.specs.declared.Group.{Group}
 use Rattle.group.specs.Record.{groupChecks}
 use Rattle.sensing.specs.Sense.{sensed}

@@ -17,7 +17,7 @@ use Rattle.order.specs.declared.Refusal.{Refusal}
 use Rattle.order.specs.Refusals.{outcomeNumber, Told, answer}
 use Rattle.distance.specs.Distance.{exchange}
 use Rattle.code.specs.declared.Verdict.{Verdict}
-use Rattle.code.specs.Calls.{Reading}
+use Rattle.code.specs.Symbols.{Reading}
 use Rattle.group.specs.declared.Group.{Group}
 use Rattle.writing.specs.declared.Push.{Push}
 use Rattle.writing.specs.Calls.{Program, pushArray, pushChecks, pushed}

@@ -6,7 +6,7 @@ ghost use mathlib.Core.Path.{_≡_};
 ghost use mathlib.Core.List.{_++_};
 ghost use Prim.Native.Nat.{min};
 ghost use lib.ListN.{length, drop};
-ghost use Rattle.code.specs.Calls.{wordsOf};
+ghost use Rattle.code.specs.Symbols.{wordsOf};
 ghost use Rattle.runs.specs.Text.{room, printed};
 
 // Puts what `rmcalls` prints for an input at the start of out, and answers how many bytes that is. Where out is shorter than

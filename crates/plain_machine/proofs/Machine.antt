@@ -17,11 +17,11 @@ use Rattle.order.specs.Cells.{isOrder}
 use Rattle.order.specs.Order.{listed, isOrderOf}
 use Rattle.order.proofs.Refusals.{check-fails, check-held, later-decide, all-held}
 use Rattle.order.proofs.Check.{order-parts}
-use Rattle.coordinates.specs.Calls.{coordinateAt}
+use Rattle.coordinates.specs.Conversion.{coordinateAt}
 use Rattle.coordinates.proofs.RoundTrip.{order-of-any}
 use Rattle.decoder.proofs.Decoding.{exchange-order}
 use Rattle.code.specs.Words.{wordAt}
-use Rattle.code.specs.Calls.{wordOf, Reading, noReading}
+use Rattle.code.specs.Symbols.{wordOf, Reading, noReading}
 use Rattle.group.specs.declared.Group.{Group}
 use Rattle.group.specs.Levels.{put, AtMost, rises, leaked}
 use Rattle.writing.specs.PushUp.{singles, Shows}

@@ -17,7 +17,7 @@ use Rattle.order.specs.declared.Refusal.the-variants.{ListShort, NoOrder, NoSym
 use Rattle.order.specs.Refusals.{ifDone, Told}
 use Rattle.order.specs.Order.{listed, isOrderOf}
 use Rattle.code.specs.Words.{K}
-use Rattle.code.specs.Calls.{wordOf}
+use Rattle.code.specs.Symbols.{wordOf}
 use Rattle.group.specs.declared.Group.{Group}
 use Rattle.group.specs.Record.{groupChecks}
 use Rattle.group.specs.Calls.{cellChecks, wearChecks, leakOf, wearOf, eraseOf}

@@ -14,7 +14,7 @@ use Rattle.decoder.specs.Decoding.{weight, leaves, isCodeword, firstBelow, corr
 use Rattle.code.specs.declared.Verdict.{Verdict}
 use Rattle.code.specs.declared.Verdict.the-variants.{Clean, PutRight}
 use Rattle.code.specs.Words.{joined, select, same, indexOf, vectorsFrom, vectors, words, K, wordAt, wordNumber, symbolOf}
-use Rattle.code.specs.Calls.{wordOf, readingAt}
+use Rattle.code.specs.Symbols.{wordOf, readingAt}
 use Rattle.group.specs.declared.Group.{Group}
 use Rattle.writing.specs.declared.Push.{Push}
 use Rattle.group.specs.Levels.{level, put, atMost, rises, leaked}

@@ -12,7 +12,7 @@ use native.Mathlib.Omega.{arith}
 use lib.Dec.{lit<}
 use lib.ListN.{length, replicate, length-replicate}
 use borrow.Author.Tests.{lt-ltb, le-leb, lt-leb}
-use Rattle.code.specs.Calls.{wordOf}
+use Rattle.code.specs.Symbols.{wordOf}
 use Rattle.order.specs.declared.Order.{Order}
 use Rattle.order.specs.declared.Refusal.{Refusal}
 use Rattle.order.specs.declared.Refusal.the-variants.{NoOrder, ListShort}
@@ -24,7 +24,7 @@ use Rattle.order.proofs.Refusals.{all-hold, check-holds, check-fails, later-dec
 use Rattle.order.proofs.Check.{order-parts}
 use Rattle.order.proofs.Records.{record-order}
 use Rattle.coordinates.specs.Coordinates.{orderFrom, limit, inRange}
-use Rattle.coordinates.specs.Calls.{coordinateAt}
+use Rattle.coordinates.specs.Conversion.{coordinateAt}
 use Rattle.coordinates.proofs.RoundTrip.{order-of-any}
 use Rattle.decoder.specs.Decoding.{modulus, weight, leaves}
 use Rattle.code.specs.Words.{K, wordAt}

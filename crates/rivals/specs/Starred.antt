@@ -30,11 +30,11 @@ use Rattle.order.specs.Refusals.{Told}
 use Rattle.order.specs.declared.Cell.{Cell}
 use Rattle.order.specs.declared.Order.{Order}
 use Rattle.coordinates.specs.declared.Coordinates.{Coordinates}
-use Rattle.coordinates.specs.Calls.{coordinatesOfOrder}
+use Rattle.coordinates.specs.Conversion.{coordinatesOfOrder}
 use Rattle.distance.specs.Distance.{distanceOf}
 use Rattle.cost.specs.Cost.{displacementsOf, costOf}
 use Rattle.code.specs.declared.Verdict.the-variants.{PutRight}
-use Rattle.code.specs.Calls.{Reading, codewordOf, decodeOf}
+use Rattle.code.specs.Symbols.{Reading, codewordOf, decodeOf}
 use Rattle.group.specs.declared.Group.{Group}
 use Rattle.writing.specs.declared.Push.{Push}
 use Rattle.writing.specs.Calls.{Program, writeOf}

@@ -7,7 +7,7 @@ use Rattle.order.specs.Refusals as refusals
 use Rattle.coordinates.specs.Coordinates.{coordinateOf, coordinatesTo, orderFrom}
 use Rattle.decoder.specs.Decoding.{weight, leaves, isCodeword, firstBelow, correction}
 use Rattle.code.specs.Words.{joined, select, same, indexOf, vectorsFrom, vectors, words, K, wordAt, wordNumber, symbolOf}
-use Rattle.code.specs.Calls.{wordOf, readingAt}
+use Rattle.code.specs.Symbols.{wordOf, readingAt}
 use Rattle.group.specs.Levels.{level, put, atMost, rises, leaked}
 use Rattle.group.specs.Record.{allAtMost, isRow}
 use Rattle.writing.specs.PushUp.{singles, top, floorOver, lift, raise, pushOf, rankPushes, pushes}

@@ -9,9 +9,9 @@ use borrow.Author.Needs.{needs}
 use Rattle.order.specs.declared.Refusal.the-variants.{Size, NoSymbol}
 use Rattle.order.specs.Refusals.{isSize}
 use Rattle.order.proofs.Refusals.{check-fails, check-holds, told-refused, size-true}
-use Rattle.coordinates.specs.Calls.{orderOfCoordinates}
+use Rattle.coordinates.specs.Conversion.{orderOfCoordinates}
 use Rattle.code.specs.Words.{K}
-use Rattle.code.specs.Calls.{codewordOf}
+use Rattle.code.specs.Symbols.{codewordOf}
 use Rattle.code.proofs.Codewords.{codeword-answer}
 use Rattle.code.proofs.codeword.Statement.{statement}
 use Rattle.code.proofs.codeword.Tie as tie

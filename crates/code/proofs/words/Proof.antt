@@ -7,7 +7,7 @@ use borrow.Author.Needs.{needs}
 use Rattle.order.specs.declared.Refusal.the-variants.{Size}
 use Rattle.order.specs.Refusals.{isSize}
 use Rattle.order.proofs.Refusals.{check-fails, check-holds, all-hold, told-refused, told-done}
-use Rattle.code.specs.Calls.{wordsOf}
+use Rattle.code.specs.Symbols.{wordsOf}
 use Rattle.code.proofs.words.Statement.{statement}
 use Rattle.code.proofs.words.Tie as tie
 

@@ -7,7 +7,7 @@ use mathlib.Core.Path.{_≡_, _∙_}
 use Rattle.order.specs.Order.{cellNumbers}
 use Rattle.order.proofs.Numbers.{length-mapped, length-places, place-at}
 use Rattle.order.proofs.Sweep.{Turn}
-use Rattle.coordinates.specs.Calls.{coordinatesOf}
+use Rattle.coordinates.specs.Conversion.{coordinatesOf}
 use Rattle.coordinates.proofs.Counting.{Counted, counted-none, counted-low, counted-high, counted-more, counted-all}
 use Rattle.coordinates.proofs.coordinates_by_sweep.Statement.{statement}
 use Rattle.coordinates.proofs.coordinates_by_sweep.Tie as tie

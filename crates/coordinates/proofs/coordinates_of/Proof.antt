@@ -4,7 +4,7 @@ use borrow.Author.Needs.{needs}
 use native.Mathlib.Omega.{arith}
 use Rattle.order.proofs.Refusals.{accepted, passed-on, told-done}
 use Rattle.order.proofs.Records.{passed, passed-listed}
-use Rattle.coordinates.specs.Calls.{coordinatesOfOrder}
+use Rattle.coordinates.specs.Conversion.{coordinatesOfOrder}
 use Rattle.coordinates.proofs.coordinates_of.Statement.{statement}
 use Rattle.coordinates.proofs.coordinates_of.Tie as tie
 

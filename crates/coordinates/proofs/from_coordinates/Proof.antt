@@ -8,7 +8,7 @@ use Rattle.order.specs.Refusals.{outcomeNumber}
 use Rattle.order.proofs.Refusals.{accepted, told-refused, told-done, sized-done}
 use Rattle.order.specs.declared.Refusal.the-variants.{Coordinate}
 use Rattle.coordinates.specs.Coordinates.{inRange}
-use Rattle.coordinates.specs.Calls.{orderOfCoordinates}
+use Rattle.coordinates.specs.Conversion.{orderOfCoordinates}
 use Rattle.coordinates.proofs.from_coordinates.Statement.{statement}
 use Rattle.coordinates.proofs.from_coordinates.Tie as tie
 

@@ -9,7 +9,7 @@ use Rattle.order.specs.Order.{listed, orderChecks}
 use Rattle.order.proofs.Refusals.{accepted}
 use Rattle.order.proofs.Numbers.{length-mapped}
 use Rattle.order.proofs.Records.{passed}
-use Rattle.coordinates.specs.Calls.{coordinatesOf}
+use Rattle.coordinates.specs.Conversion.{coordinatesOf}
 use Rattle.decoder.specs.Steps.{syndromeOf, Exchangeable}
 use Rattle.decoder.proofs.ZeroSyndrome.{same-number, same-coordinates, coordinates-sized, coordinates-syndrome}
 use Rattle.decoder.proofs.NearestWord.{nearest-refused, nearest-lost, nearest-clean, nearest-put-right, read-clean, read-place}

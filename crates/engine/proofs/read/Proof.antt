@@ -4,7 +4,7 @@ use borrow.Author.Needs.{needs}
 use mathlib.Core.Path.{sym, ap, _∙_}
 use Rattle.order.specs.Refusals.{outcomeNumber}
 use Rattle.order.proofs.Refusals.{accepted}
-use Rattle.code.specs.Calls.{decodeOf}
+use Rattle.code.specs.Symbols.{decodeOf}
 use Rattle.engine.proofs.Answers.{marked-number, marked-record, read-refused, read-decoded}
 use Rattle.engine.proofs.read.Statement.{statement}
 use Rattle.engine.proofs.read.Tie as tie

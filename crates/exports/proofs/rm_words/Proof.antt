@@ -5,7 +5,7 @@ use mathlib.Core.Path.{_≡_, sym, ap, _∙_}
 use Prim.Native.Nat.{ℕ}
 use Rattle.order.specs.Refusals.{Told}
 use Rattle.code.specs.declared.WordsAnswer.{WordsAnswer}
-use Rattle.code.specs.Calls.{toldWords}
+use Rattle.code.specs.Symbols.{toldWords}
 use Rattle.exports.proofs.rm_words.Statement.{statement}
 use Rattle.exports.proofs.rm_words.Tie as tie
 

@@ -23,7 +23,7 @@ use Rattle.order.specs.declared.Refusal.the-variants.{Size, NoSymbol}
 use Rattle.order.specs.Refusals.{refusalNumber, Told, answer, isSize}
 use Rattle.order.specs.Order.{listed, orderRecord, noOrder}
 use Rattle.coordinates.specs.Coordinates.{orderFrom}
-use Rattle.coordinates.specs.Calls.{coordinateAt}
+use Rattle.coordinates.specs.Conversion.{coordinateAt}
 use Rattle.distance.specs.Distance.{exchange}
 use Rattle.decoder.specs.Decoding.{correction}
 use Rattle.decoder.specs.Nearest.{decodeChecks}
