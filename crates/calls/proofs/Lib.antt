@@ -1,5 +1,2 @@
-pub mod Paste
-pub mod Decimal
 pub mod Printed
 pub mod Running
-pub mod Commas

@@ -13,11 +13,13 @@ use borrow.Author.Tests.{leb-true, leb-false, le-leb}
 use Rattle.records.specs.Records.{records}
 use Rattle.runs.specs.declared.Progress.{Progress}
 use Rattle.runs.specs.declared.PieceAnswer.{PieceAnswer}
-use Rattle.runs.specs.Text.{leftLine, sumLine, taken, printed}
+use Rattle.lines.specs.Line.{leftLine, sumLine}
+use Rattle.runs.specs.Text.{taken, printed}
 use Rattle.runs.specs.Pieces.{beginning, progressAfter, linesFrom, textFrom, goesOn, ends, linesPrinted, pieceOf, endPrinted}
 use Rattle.runs.proofs.Pieces.{text-begun}
-use Rattle.calls.specs.Steps.{pasted, Puts}
-use Rattle.calls.proofs.Paste.{puts-as}
+use Rattle.lines.specs.Line.{pasted}
+use Rattle.lines.specs.Puts.{Puts}
+use Rattle.lines.proofs.Paste.{puts-as}
 
 -- a text put at the start of a buffer
 first-put : {out last t u : List ℕ} {end : ℕ} → t ≡ u → Puts out last 0 end t → (end ≡ length u) × (last ≡ u ++ drop end out)

@@ -17,10 +17,12 @@ use Rattle.records.specs.declared.CallRecord.{CallRecord}
 use Rattle.records.specs.declared.Answered.{Answered}
 use Rattle.runs.specs.declared.Progress.{Progress}
 use Rattle.records.specs.Records.{recordAt, records, Answer, toldAnswered, stepOf}
-use Rattle.runs.specs.Text.{lineOf, lines, allPulses, room}
+use Rattle.lines.specs.Line.{lineOf}
+use Rattle.runs.specs.Text.{lines, allPulses, room}
 use Rattle.runs.specs.Pieces.{progressAfter, linesFrom, takes}
-use Rattle.calls.specs.Steps.{Puts}
-use Rattle.calls.proofs.Paste.{puts-none, puts-join, puts-as}
+use Rattle.lines.specs.Puts.{Puts}
+use Rattle.lines.proofs.Paste.{puts-none, puts-join, puts-as}
+use Rattle.lines.proofs.Room.{Put, put-line}
 use Rattle.runs.proofs.Follow.{lines-follow, progress-follows}
 
 -- what it is that a run takes a piece
@@ -95,9 +97,9 @@ running-starts {p} {bs} {empty} e =
 
 pub running-steps : {p q : Progress} {bs empty now later : List ℕ} {count end next i : ℕ} {r : CallRecord} (a : Answered)
     → Running p bs count empty now q end i → i < count → r ≡ recordAt bs i → toldAnswered a ≡ stepOf (q .group) r → a .pulses < 4294967296
-    → Puts now later end next (lineOf (q .position + 1) (r .kind) (toldAnswered a)) → next ≤ end + 128
+    → Put 128 end (lineOf (q .position + 1) (r .kind) (toldAnswered a)) now later next
     → Running p bs count empty later (record { position = q .position + 1; group = a .group; pulses = q .pulses + a .pulses }) next (i + 1)
-running-steps {p} {q} {bs} {empty} {now} {later} {count} {end} {next} {i} {r} a run h e s b w n =
+running-steps {p} {q} {bs} {empty} {now} {later} {count} {end} {next} {i} {r} a run h e s b w =
     let rs = drop (i + 1) (records bs) in
     let after : Progress = record { position = q .position + 1; group = a .group; pulses = q .pulses + a .pulses } in
     let line = lineOf (q .position + 1) (r .kind) (toldAnswered a) in
@@ -111,11 +113,11 @@ running-steps {p} {q} {bs} {empty} {now} {later} {count} {end} {next} {i} {r} a 
       reached = omega arith;
       few = run .few;
       room = run .room;
-      within = omega (arith, run .within);
+      within = omega (arith, run .within, w .1 .1);
       place = omega (arith, run .place);
       small = omega (arith, run .small);
       said = run .said ++ line;
-      puts = puts-join (run .puts) w;
+      puts = puts-join (run .puts) (put-line 128 end line now (omega (arith, h, run .within, run .room, run .puts .kept)) w);
       rest = append-assoc (run .said) line (linesFrom after rs) ∙ ap (λ (t : List ℕ). run .said ++ t) (sym text) ∙ run .rest;
       goes =
           ap (λ (x : Progress). progressAfter x rs) (sym one) ∙ sym (progress-follows q (r ∷ []) rs) ∙ ap (progressAfter q) (sym here) ∙ run .goes;

@@ -18,7 +18,8 @@ use Rattle.engine.specs.Calls.{readOf, storeOf}
 use Rattle.engine.specs.Scrub.{scrubOf}
 use Rattle.plain_machine.specs.Machine.{applyOf}
 use Rattle.records.specs.Records.{recordAt, records, unusedZero, requestOf, stepOf}
-use Rattle.runs.specs.Text.{spelled, decimal, numbersOf, lineOf, lines, allPulses, leftLine, sumLine, textOf}
+use Rattle.lines.specs.Line.{spelled, decimal, numbersOf, lineOf, leftLine, sumLine}
+use Rattle.runs.specs.Text.{lines, allPulses, textOf}
 
 abbrev example : List ℕ
 example =

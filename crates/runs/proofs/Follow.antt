@@ -10,7 +10,8 @@ use Rattle.group.specs.declared.Group.{Group}
 use Rattle.records.specs.declared.CallRecord.{CallRecord}
 use Rattle.runs.specs.declared.Progress.{Progress}
 use Rattle.records.specs.Records.{stepOf}
-use Rattle.runs.specs.Text.{lineOf, lines, allPulses}
+use Rattle.lines.specs.Line.{lineOf}
+use Rattle.runs.specs.Text.{lines, allPulses}
 use Rattle.runs.specs.Pieces.{groupAfter, progressAfter, linesFrom}
 
 pub group-append : (g : Group) (rs ss : List CallRecord) → groupAfter g (rs ++ ss) ≡ groupAfter (groupAfter g rs) ss

@@ -15,7 +15,8 @@ use Rattle.records.specs.declared.CallRecord.{CallRecord}
 use Rattle.records.specs.Records.{recordAt, records}
 use Rattle.records.proofs.Cut.{records-append}
 use Rattle.runs.specs.declared.Progress.{Progress}
-use Rattle.runs.specs.Text.{leftLine, sumLine, textOf, room, allPulses, lines}
+use Rattle.lines.specs.Line.{leftLine, sumLine}
+use Rattle.runs.specs.Text.{textOf, room, allPulses, lines}
 use Rattle.runs.specs.Pieces.{beginning, progressAfter, linesFrom, textFrom, goesOn, ends, linesPrinted, pieceOf, endPrinted, Lent, Whole, allBytes, allPrinted}
 use Rattle.runs.proofs.Course.{Begun, stream-begun}
 use Rattle.runs.proofs.Pulses.{pulses-most}

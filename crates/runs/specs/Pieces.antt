@@ -29,7 +29,8 @@ use Rattle.records.specs.declared.CallRecord.{CallRecord}
 use Rattle.runs.specs.declared.Progress.{Progress}
 use Rattle.runs.specs.declared.PieceAnswer.{PieceAnswer}
 use Rattle.records.specs.Records.{records, stepOf}
-use Rattle.runs.specs.Text.{lines, allPulses, leftLine, sumLine, room}
+use Rattle.lines.specs.Line.{leftLine, sumLine}
+use Rattle.runs.specs.Text.{lines, allPulses, room}
 
 abbrev pub groupAfter : Group → List CallRecord → Group
 groupAfter g [] = g

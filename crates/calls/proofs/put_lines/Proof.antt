@@ -35,42 +35,45 @@ add-position c =
     let run = t .before .loop .inv in
     omega (arith, t .loop-test .taken, run .place, run .few)
 
-put-line-requires : tie.Need-put-line-requires Inv-loop μ-loop
-put-line-requires c κs =
-    let t = c .before .before .before in
-    let run = t .before .loop .inv in
-    omega (arith, t .loop-test .taken, run .within, run .room, run .puts .kept)
-
 cast-pulses : tie.Need-cast-pulses Inv-loop μ-loop
 cast-pulses c = search needs
 
 add-pulses : tie.Need-add-pulses Inv-loop μ-loop
 add-pulses c =
-    let t = c .before .before .before .before .before .before .before in
+    let t = c .before .before .before in
     let run = t .before .loop .inv in
     omega (arith, t .loop-test .taken, run .place, run .few, run .small, c .struct-known .given)
 
 by-fields-requires-2 : tie.Need-by-fields-requires-2 Inv-loop μ-loop
 by-fields-requires-2 c κs = search needs
 
+cast-put-line : tie.Need-cast-put-line Inv-loop μ-loop
+cast-put-line c =
+    let t = c .before .before .before .before .before .before in
+    let run = t .before .loop .inv in
+    omega (arith, t .loop-test .taken, run .within, run .few)
+
+put-line-requires : tie.Need-put-line-requires Inv-loop μ-loop
+put-line-requires c κs = search needs
+
 loop-less : tie.Need-loop-less Inv-loop μ-loop
 loop-less c = omega (arith, c .before .before .before .before .before .before .before .before .before .loop-test .taken)
 
 loop-again : tie.Need-loop-again Inv-loop μ-loop
 loop-again c =
-    let p = c .before .before .before .before .before in
-    let s = p .before .before in
+    let p = c .before .before in
+    let g = p .before .before in
+    let s = g .before .before .before in
     let t = s .before .before in
-    rw (c .by-fields2 .ensures)
+    rw (g .by-fields2 .ensures)
     (running-steps
     (s .step .result)
     (t .before .loop .inv)
     (t .loop-test .taken)
     (s .before .record-at .ensures)
     (s .step .ensures)
-    (omega (arith, c .before .before .struct-known .given))
-    (p .put-line .ensures .0)
-    (p .put-line .ensures .1))
+    (omega (arith, g .before .before .struct-known .given))
+    (p .put-line .ensures))
 
 same-length : tie.Need-same-length Inv-loop μ-loop
 same-length c = c .before .loop .inv .puts .kept
@@ -95,10 +98,11 @@ put-lines-spec =
     step-requires
     add-i
     add-position
-    put-line-requires
     cast-pulses
     add-pulses
     by-fields-requires-2
+    cast-put-line
+    put-line-requires
     loop-less
     loop-again
     same-length
