@@ -61,9 +61,15 @@ pub fn write(g: Group, target: Order) -> Written
         return unwritten(Outcome::Refused(Refusal::Worn), g);
     }
     let pushes = p.pushes;
+    // the record stands here field by field: one that a call returns is copied with its padding
     Written {
         outcome: Outcome::Done,
-        group: group::programmed(g, levels),
+        group: Group {
+            n: g.n,
+            levels,
+            caps,
+            written: true,
+        },
         pulses: p.pulses,
         count: p.count,
         pushes,
