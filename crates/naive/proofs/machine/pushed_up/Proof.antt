@@ -6,10 +6,10 @@ use Rattle.naive.proofs.machine.pushed_up.Statement.{statement}
 use Rattle.naive.proofs.machine.pushed_up.Tie as tie
 
 abbrev Inv-loop : tie.InvT-loop
-Inv-loop n old cells levels₀ least₀ k₀ levels least k = Unit {0}
+Inv-loop cells n old levels₀ k₀ levels k = Unit {0}
 
 abbrev μ-loop : tie.MeasureT-loop
-μ-loop n old cells levels₀ least₀ k₀ levels least k = 12 - k
+μ-loop cells n old levels₀ k₀ levels k = n - k
 
 pub pushed-up-spec : {M : Type 1} → statement M
 pushed-up-spec =
@@ -18,9 +18,6 @@ pushed-up-spec =
     Inv-loop
     μ-loop
     (λ c. search needs)
-    (λ c. search needs)
-    (λ c. search needs)
-    (λ c κs. search needs)
     (λ c κs. search needs)
     (λ c κs. search needs)
     (λ c κs. search needs)

@@ -1,18 +1,18 @@
--- `naive::machine::program_of` is safe and ends. The measure is what is left of the range.
+-- `naive::machine::with_pushes` is safe and ends. The measure is what is left of the range.
 -- Assumes nothing.
 use Prim.Native.Nat.{_-_}
 use borrow.Author.Needs.{needs}
-use Rattle.naive.proofs.machine.program_of.Statement.{statement}
-use Rattle.naive.proofs.machine.program_of.Tie as tie
+use Rattle.naive.proofs.machine.with_pushes.Statement.{statement}
+use Rattle.naive.proofs.machine.with_pushes.Tie as tie
 
 abbrev Inv-loop : tie.InvT-loop
-Inv-loop n old levels cells p₀ k₀ p k = Unit {0}
+Inv-loop old cells levels a₀ k₀ a k = Unit {0}
 
 abbrev μ-loop : tie.MeasureT-loop
-μ-loop n old levels cells p₀ k₀ p k = 12 - k
+μ-loop old cells levels a₀ k₀ a k = 12 - k
 
-pub program-of-spec : {M : Type 1} → statement M
-program-of-spec =
+pub with-pushes-spec : {M : Type 1} → statement M
+with-pushes-spec =
     tie.close
     (tie.spec
     Inv-loop
@@ -23,7 +23,6 @@ program-of-spec =
     (λ c. search needs)
     (λ c κs. search needs)
     (λ c κs. search needs)
-    (λ c. search needs)
     (λ c κs. search needs)
     (λ c κs. search needs)
     (λ c. search needs)
