@@ -40,8 +40,8 @@ fn same_list(list: [Push; 12], b: Answer) -> bool {
     same
 }
 
-// The answer and the list where so many of twelve places are lent.
-fn lend(g: Group, target: Order, room: usize) -> bool {
+// Two comparisons where so many of twelve places are lent: the answer, and the list.
+fn lend(t: Tally, g: Group, target: Order, room: usize) -> Tally {
     let m = mark();
     let lent = push_list::lend(g, target, [m; 12], room);
     let b = naive::machine::write_into(g, target, room);
@@ -58,10 +58,7 @@ fn lend(g: Group, target: Order, room: usize) -> bool {
         count: answer.count,
         pushes,
     };
-    if same::written(written, b) {
-        return same_list(list, b);
-    }
-    false
+    noted(same::written(t, written, b), b.number, same_list(list, b))
 }
 
 // How many places are lent: 0 to 13, or more than there are.
@@ -79,9 +76,8 @@ pub fn lists(n: usize) -> Tally {
     let mut t = none();
     for s in 0..1000 {
         let target = sample::target(n, s);
-        let places = room(s);
-        t = noted(t, lend(sample::group(n, s), target, places));
-        t = noted(t, lend(sample::forged(n, s), target, places));
+        t = lend(t, sample::group(n, s), target, room(s));
+        t = lend(t, sample::forged(n, s), target, room(s));
     }
     t
 }

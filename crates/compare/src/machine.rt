@@ -1,72 +1,38 @@
 // The calls of the machine, one by one and in long lists.
-use crate::orders::is_value;
 use crate::same;
 use crate::sample;
 use crate::tally::Tally;
 use crate::tally::none;
-use crate::tally::noted;
-use crate::tally::sum;
 use engine::AlikeAnswer;
 use group::Group;
 use naive::numbers::add;
 use naive::numbers::byte;
 use naive::numbers::wide32;
-use naive::numbers::wide64;
-use naive::orders::OrderFound;
 use naive::words::Reading;
 use order::Cell;
 use order::Order;
 use plain_machine::Call;
 use plain_machine::Kind;
 
-pub fn open(n: usize) -> bool {
-    same::changed(group::open(n), naive::machine::open(n))
-}
-
-fn read(g: Group, r: Reading) -> bool {
-    same::read(engine::read(g), naive::machine::told(g, r))
-}
-
-fn scrub(g: Group, r: Reading) -> bool {
-    same::applied(engine::scrub(g), naive::machine::scrubbed(g, r))
-}
-
-fn store(g: Group, symbol: u32, word: OrderFound) -> bool {
-    same::written(
-        engine::store(g, symbol),
-        naive::machine::stored(g, symbol, word),
-    )
-}
-
-fn write(g: Group, target: Order) -> bool {
-    same::written(writing::write(g, target), naive::machine::write(g, target))
-}
-
-fn leak(g: Group, cell: Cell, d: u32) -> bool {
-    same::changed(group::leak(g, cell, d), naive::machine::leak(g, cell, d))
-}
-
-fn wear(g: Group, cell: Cell, cap: u32) -> bool {
-    same::changed(
+// Five comparisons of a record: leaked, worn, erased, checked and sensed.
+fn each_change(t: Tally, g: Group, s: usize) -> Tally {
+    let cell = sample::cell(g, s);
+    let d = sample::drop(s);
+    let cap = sample::cap(g, cell, s);
+    let t1 = same::changed(t, group::leak(g, cell, d), naive::machine::leak(g, cell, d));
+    let t2 = same::changed(
+        t1,
         group::wear(g, cell, cap),
         naive::machine::wear(g, cell, cap),
-    )
+    );
+    let t3 = same::changed(t2, group::erase(g), naive::machine::erase(g));
+    let t4 = same::checked(t3, group::check(g), naive::machine::check(g));
+    same::order_answer(t4, sensing::sense(g), naive::machine::sense(g))
 }
 
-fn erase(g: Group) -> bool {
-    same::changed(group::erase(g), naive::machine::erase(g))
-}
-
-fn check(g: Group) -> bool {
-    same::outcome(group::check(g)) == naive::machine::check(g)
-}
-
-fn sense(g: Group) -> bool {
-    same::order_answers(sensing::sense(g), naive::machine::sense(g))
-}
-
-fn apply(g: Group, call: Call) -> bool {
+fn apply(t: Tally, g: Group, call: Call) -> Tally {
     same::applied(
+        t,
         plain_machine::apply(g, call),
         naive::machine::apply(g, call),
     )
@@ -74,66 +40,38 @@ fn apply(g: Group, call: Call) -> bool {
 
 // Two comparisons of what is read in a group.
 pub fn each_reading(t: Tally, g: Group, r: Reading) -> Tally {
-    noted(noted(t, read(g, r)), scrub(g, r))
+    same::applied(
+        same::read(t, engine::read(g), r),
+        engine::scrub(g),
+        naive::machine::scrubbed(g, r),
+    )
 }
 
-// One comparison of a symbol stored, whose word is known.
-pub fn each_store(t: Tally, n: usize, symbol: u32, word: OrderFound) -> Tally {
-    noted(t, store(sample::group(n, wide64(symbol)), symbol, word))
-}
-
-// Five comparisons of a record: leaked, worn, erased, checked and sensed.
-fn each_change(t: Tally, g: Group, s: usize) -> Tally {
-    let cell = sample::cell(g, s);
-    let t1 = noted(t, leak(g, cell, sample::drop(s)));
-    let t2 = noted(t1, wear(g, cell, sample::cap(g, cell, s)));
-    let t3 = noted(t2, erase(g));
-    let t4 = noted(t3, check(g));
-    noted(t4, sense(g))
-}
-
-// Two comparisons of a record: an order written, and a call of any kind.
-fn each_call(t: Tally, g: Group, target: Order, s: usize) -> Tally {
-    let t1 = noted(t, write(g, target));
-    noted(t1, apply(g, sample::call(g, s)))
-}
-
-// Ten comparisons of a record.
+// Ten comparisons of a record: the five above, an order written, a call of any kind, a symbol stored, read and scrubbed.
 fn each_record(t: Tally, g: Group, target: Order, s: usize) -> Tally {
     let t1 = each_change(t, g, s);
-    let t2 = each_call(t1, g, target, s);
+    let t2 = same::written(
+        t1,
+        writing::write(g, target),
+        naive::machine::write(g, target),
+    );
+    let t3 = apply(t2, g, sample::call(g, s));
     let symbol = sample::symbol(g.n, s);
-    let t3 = noted(t2, store_listed(g, symbol));
-    each_reading(t3, g, naive::machine::reading(g))
+    let t4 = same::written(
+        t3,
+        engine::store(g, symbol),
+        naive::machine::store(g, symbol),
+    );
+    each_reading(t4, g, naive::machine::reading(g))
 }
 
-fn store_listed(g: Group, symbol: u32) -> bool {
-    same::written(engine::store(g, symbol), naive::machine::store(g, symbol))
-}
-
-// Sampled records of n cells, each as it is and forged.
-pub fn records(n: usize) -> Tally {
+// So many sampled records of n cells, each as it is and forged.
+pub fn records(n: usize, many: usize) -> Tally {
     let mut t = none();
-    for s in 0..1000 {
+    for s in 0..many {
         let target = sample::target(n, s);
         t = each_record(t, sample::group(n, s), target, s);
         t = each_record(t, sample::forged(n, s), target, s);
-    }
-    t
-}
-
-// Six comparisons of a record.
-fn each_plain(t: Tally, g: Group, target: Order, s: usize) -> Tally {
-    noted(each_change(t, g, s), write(g, target))
-}
-
-// The same for the calls that list no words.
-pub fn changes(n: usize) -> Tally {
-    let mut t = none();
-    for s in 0..1000 {
-        let target = sample::target(n, s);
-        t = each_plain(t, sample::group(n, s), target, s);
-        t = each_plain(t, sample::forged(n, s), target, s);
     }
     t
 }
@@ -144,24 +82,24 @@ fn after(g: Group, call: Call) -> Group {
 }
 
 // A list of 250 calls from a new group, each on the record that the call before it left, and beside it on a forged one: 2 comparisons.
-fn list(n: usize, s: usize) -> Tally {
-    let mut t = none();
+fn list(t: Tally, n: usize, s: usize) -> Tally {
+    let mut all = t;
     let opened = group::open(n);
     let mut g = opened.group;
     for step in 0..250 {
         let call = sample::call(g, add(s, step));
-        t = noted(t, apply(g, call));
-        t = noted(t, apply(sample::forged(n, add(s, step)), call));
+        all = apply(all, g, call);
+        all = apply(all, sample::forged(n, add(s, step)), call);
         g = after(g, call);
     }
-    t
+    all
 }
 
-// Many lists of calls on groups of n cells.
+// So many lists of calls on groups of n cells.
 pub fn lists(n: usize, many: usize) -> Tally {
     let mut t = none();
     for s in 0..many {
-        t = sum(t, list(n, 1000 * (s % 1000)));
+        t = list(t, n, 1000 * (s % 1000));
     }
     t
 }
@@ -215,34 +153,21 @@ fn small_call(k: usize) -> Call {
     }
 }
 
-// Each of the 22 calls on a small group.
-fn every_small_call(g: Group) -> Tally {
-    let mut t = none();
-    for k in 0..22 {
-        t = noted(t, apply(g, small_call(k)));
-    }
-    t
-}
-
-// Every small group: 27 levels, 64 caps, marked or not.
+// Every small group: 27 levels, 64 caps, marked or not; and each of the 22 calls on it.
 pub fn every_small() -> Tally {
     let mut t = none();
-    for k in 0..3456 {
-        t = sum(t, every_small_call(small(k)));
+    for k in 0..76032 {
+        t = apply(t, small(k / 22), small_call(k % 22));
     }
     t
 }
 
-fn are_alike(g: Group, h: Group) -> bool {
+fn are_alike(t: Tally, g: Group, h: Group) -> Tally {
     let b = naive::machine::alike(g, h);
     match engine::alike(g, h) {
-        AlikeAnswer::Refused(r) => same::refusal(r) == b.number,
-        AlikeAnswer::Alike(yes) => is_value(b, as_number(yes)),
+        AlikeAnswer::Refused(r) => same::value(t, same::refusal(r), 0, b),
+        AlikeAnswer::Alike(yes) => same::value(t, 0, same::as_number(yes), b),
     }
-}
-
-fn as_number(yes: bool) -> u32 {
-    if yes { 1 } else { 0 }
 }
 
 // The first of two groups: forged in one of five.
@@ -272,7 +197,7 @@ fn other(n: usize, k: usize) -> Group {
 pub fn alike(n: usize) -> Tally {
     let mut t = none();
     for k in 0..2500 {
-        t = noted(t, are_alike(one(n, k), other(n, k)));
+        t = are_alike(t, one(n, k), other(n, k));
     }
     t
 }

@@ -4,45 +4,42 @@ use crate::sample;
 use crate::tally::Tally;
 use crate::tally::none;
 use crate::tally::noted;
-use crate::tally::sum;
 use coordinates::Coordinates;
 use cost::CostAnswer;
 use decoder::TestAnswer;
 use distance::DistanceAnswer;
 use naive::numbers::add;
 use naive::numbers::byte;
+use naive::orders::cells_of;
+use naive::orders::ranks_in;
+use naive::orders::shifted;
 use naive::orders::with_cells;
-use naive::pairs::NumberFound;
+use naive::orders::with_ranks;
 use naive::words::first;
+use naive::words::first_difference;
 use naive::words::next;
 use naive::words::word_cells;
 use order::Order;
-use order::Rank;
-use ranks::Ranks;
 
-fn ranks_of(o: Order) -> bool {
+fn ranks_of(t: Tally, o: Order) -> Tally {
     let a = ranks::ranks_of(o);
     let b = naive::orders::ranks_of(o);
     let found = a.outcome;
     let ranks = a.ranks;
     let other = b.ranks;
-    if same::outcome(found) != b.number {
-        return false;
-    }
-    same::ranks(ranks, other)
+    noted(
+        t,
+        b.number,
+        same::outcome(found) == b.number
+            && ranks.len == other.len
+            && first_difference(ranks_in(ranks), ranks_in(other)) == 0,
+    )
 }
 
 // The numbers of an order taken for ranks.
-fn from_ranks(o: Order) -> bool {
-    let mut held = [Rank(0); 12];
-    for i in 0..12 {
-        held[i] = Rank(o.cells[i].0);
-    }
-    let r = Ranks {
-        len: o.len,
-        ranks: held,
-    };
-    same::order_answers(ranks::from_ranks(r), naive::orders::from_ranks(r))
+fn from_ranks(t: Tally, o: Order) -> Tally {
+    let r = with_ranks(cells_of(o), o.len);
+    same::order_answer(t, ranks::from_ranks(r), naive::orders::from_ranks(r))
 }
 
 // The cells of an order, with room for lists that are too long.
@@ -55,39 +52,44 @@ fn padded(o: Order) -> [u8; 16] {
 }
 
 // An order as a list of its length, up to 16.
-fn order_of(o: Order) -> bool {
+fn order_of(t: Tally, o: Order) -> Tally {
     let list = padded(o);
-    listed_same(&list, padded(o), o.len)
+    listed_array(t, &list, padded(o), o.len)
 }
 
-fn listed_same(list: &[u8; 16], cells: [u8; 16], len: usize) -> bool {
-    front_same(list, cells, len)
+fn listed_array(t: Tally, list: &[u8; 16], cells: [u8; 16], len: usize) -> Tally {
+    front(t, list, cells, len)
 }
 
-fn front_same(list: &[u8], cells: [u8; 16], len: usize) -> bool {
+fn front(t: Tally, list: &[u8], cells: [u8; 16], len: usize) -> Tally {
     if len <= list.len() {
-        return same::order_answers(
+        return same::order_answer(
+            t,
             order::order_of(&list[0..len]),
             naive::orders::order_of(cells, len),
         );
     }
-    same::order_answers(order::order_of(list), naive::orders::order_of(cells, 16))
+    same::order_answer(t, order::order_of(list), naive::orders::order_of(cells, 16))
 }
 
-fn coordinates_of(o: Order) -> bool {
+fn coordinates_of(t: Tally, o: Order) -> Tally {
     let a = coordinates::coordinates_of(o);
     let b = naive::orders::coordinates_of(o);
     let found = a.outcome;
     let values = a.coordinates;
     let other = b.coordinates;
-    if same::outcome(found) != b.number {
-        return false;
-    }
-    same::coordinates(values, other)
+    noted(
+        t,
+        b.number,
+        same::outcome(found) == b.number
+            && values.len == other.len
+            && first_difference(shifted(values), shifted(other)) == 0,
+    )
 }
 
-fn from_coordinates(x: Coordinates) -> bool {
-    same::order_answers(
+fn from_coordinates(t: Tally, x: Coordinates) -> Tally {
+    same::order_answer(
+        t,
         coordinates::from_coordinates(x),
         naive::orders::from_coordinates(x),
     )
@@ -103,101 +105,84 @@ fn as_coordinates(o: Order) -> Coordinates {
 }
 
 // The order of an order's coordinates, and of none where it is refused.
-fn back(o: Order) -> bool {
+fn back(t: Tally, o: Order) -> Tally {
     let found = naive::orders::coordinates_of(o);
     let x = found.coordinates;
-    from_coordinates(x)
+    from_coordinates(t, x)
 }
 
-fn is_codeword(o: Order) -> bool {
+fn is_codeword(t: Tally, o: Order) -> Tally {
     let b = naive::words::is_codeword(o);
     match decoder::is_codeword(o) {
-        TestAnswer::Refused(r) => same::refusal(r) == b.number,
-        TestAnswer::Tested(yes) => {
-            if b.number != 0 {
-                return false;
-            }
-            yes == (b.value == 1)
-        }
+        TestAnswer::Refused(r) => same::value(t, same::refusal(r), 0, b),
+        TestAnswer::Tested(yes) => same::value(t, 0, same::as_number(yes), b),
     }
 }
 
-// Eight comparisons of one order, right or not.
-pub fn each(t: Tally, o: Order) -> Tally {
-    let t1 = noted(
+// Whether the record is an order of as many cells as it says: no refusal, and 0 in the tally.
+fn is_order(t: Tally, o: Order) -> Tally {
+    noted(
         t,
-        same::outcome(order::check_order(o)) == naive::orders::check_order(o),
-    );
-    let t2 = noted(t1, ranks_of(o));
-    let t3 = noted(t2, from_ranks(o));
-    let t4 = noted(t3, order_of(o));
-    let t5 = noted(t4, coordinates_of(o));
-    let t6 = noted(t5, from_coordinates(as_coordinates(o)));
-    let t7 = noted(t6, back(o));
-    noted(t7, is_codeword(o))
+        0,
+        order::is_order(o, o.len) == naive::orders::is_order(o, o.len),
+    )
 }
 
-fn distance(u: Order, v: Order) -> bool {
+// Eleven comparisons of one order, right or not.
+fn each(t: Tally, o: Order) -> Tally {
+    let t1 = same::checked(t, order::check_order(o), naive::orders::check_order(o));
+    let t2 = from_ranks(ranks_of(t1, o), o);
+    let t3 = order_of(is_order(t2, o), o);
+    let t4 = back(coordinates_of(t3, o), o);
+    let t5 = from_coordinates(t4, as_coordinates(o));
+    let r = naive::words::decode(o);
+    let t6 = same::decoded(is_codeword(t5, o), code::decode(o), r);
+    same::corrected(t6, code::corrected(o), r)
+}
+
+fn distance(t: Tally, u: Order, v: Order) -> Tally {
     let b = naive::pairs::distance(u, v);
     match distance::distance(u, v) {
-        DistanceAnswer::Refused(r) => same::refusal(r) == b.number,
-        DistanceAnswer::Distance(d) => is_value(b, d),
+        DistanceAnswer::Refused(r) => same::value(t, same::refusal(r), 0, b),
+        DistanceAnswer::Distance(d) => same::value(t, 0, d, b),
     }
 }
 
-fn cost(u: Order, v: Order) -> bool {
+fn cost(t: Tally, u: Order, v: Order) -> Tally {
     let b = naive::pairs::cost(u, v);
     match cost::cost(u, v) {
-        CostAnswer::Refused(r) => same::refusal(r) == b.number,
-        CostAnswer::Cost(c) => is_value(b, naive::numbers::wide32(c)),
+        CostAnswer::Refused(r) => same::value(t, same::refusal(r), 0, b),
+        CostAnswer::Cost(c) => same::value(t, 0, naive::numbers::wide32(c), b),
     }
 }
 
-// Whether a naive answer is done, with this value.
-pub fn is_value(b: NumberFound, value: u32) -> bool {
-    if b.number != 0 {
-        return false;
-    }
-    b.value == value
-}
-
-fn displacements(u: Order, v: Order) -> bool {
+fn displacements(t: Tally, u: Order, v: Order) -> Tally {
     let a = cost::displacements(u, v);
     let b = naive::pairs::displacements(u, v);
     let found = a.outcome;
     let values = a.displacements;
     let other = b.values;
-    if same::outcome(found) != b.number {
-        return false;
-    }
-    same::signed(values, other)
+    noted(
+        t,
+        b.number,
+        same::outcome(found) == b.number && same::signed(values, other),
+    )
 }
 
 // Four comparisons of two orders, right or not.
-pub fn each_pair(t: Tally, u: Order, v: Order) -> Tally {
-    let t1 = noted(
-        t,
-        same::outcome(order::check_pair(u, v)) == naive::orders::check_pair(u, v),
-    );
-    let t2 = noted(t1, distance(u, v));
-    let t3 = noted(t2, displacements(u, v));
-    noted(t3, cost(u, v))
+fn each_pair(t: Tally, u: Order, v: Order) -> Tally {
+    let t1 = same::checked(t, order::check_pair(u, v), naive::orders::check_pair(u, v));
+    cost(displacements(distance(t1, u, v), u, v), u, v)
 }
 
-// An order that is read by the engine and by the search through every word.
-pub fn decode(t: Tally, o: Order) -> Tally {
-    noted(t, same::decoded(code::decode(o), naive::words::decode(o)))
-}
-
-// Every order of n cells.
+// Every order of n cells, and the reading that a search through all words finds.
 pub fn every(n: usize) -> Tally {
     let mut t = none();
     let mut l = first(n);
     for _ in 0..720usize {
         if !l.ended {
             let o = with_cells(word_cells(l), n);
-            t = each(t, o);
-            t = decode(t, o);
+            t = same::corrected(each(t, o), code::corrected(o), naive::words::searched(o));
             l = next(l);
         }
     }
@@ -205,16 +190,16 @@ pub fn every(n: usize) -> Tally {
 }
 
 // Every order of n cells as the second of a pair.
-fn every_second(u: Order, n: usize) -> Tally {
-    let mut t = none();
+fn every_second(t: Tally, u: Order, n: usize) -> Tally {
+    let mut all = t;
     let mut l = first(n);
     for _ in 0..720usize {
         if !l.ended {
-            t = each_pair(t, u, with_cells(word_cells(l), n));
+            all = each_pair(all, u, with_cells(word_cells(l), n));
             l = next(l);
         }
     }
-    t
+    all
 }
 
 // Every pair of orders of n cells.
@@ -223,7 +208,7 @@ pub fn every_pair(n: usize) -> Tally {
     let mut l = first(n);
     for _ in 0..720usize {
         if !l.ended {
-            t = sum(t, every_second(with_cells(word_cells(l), n), n));
+            t = every_second(t, with_cells(word_cells(l), n), n);
             l = next(l);
         }
     }
@@ -252,8 +237,7 @@ pub fn every_list(len: usize) -> Tally {
     let mut t = none();
     for k in 0..1250 {
         let o = listed(len, k);
-        t = each(t, o);
-        t = each_pair(t, o, listed(len, k / 2));
+        t = each_pair(each(t, o), o, listed(len, k / 2));
         t = each_pair(t, listed(4, 482), o);
     }
     t
@@ -269,8 +253,7 @@ pub fn every_sample(n: usize) -> Tally {
     let mut t = none();
     for s in 0..2000 {
         let o = sample::target(n, s);
-        t = each(t, o);
-        t = each_pair(t, o, sample::order(n, add(s, 1)));
+        t = each_pair(each(t, o), o, sample::order(n, add(s, 1)));
     }
     t
 }

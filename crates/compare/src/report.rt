@@ -1,31 +1,33 @@
-// The lines that are printed, gathered for one write.
+// The lines that are printed, one for each part.
 use crate::tally::Tally;
 use crate::tally::none;
 use crate::tally::sum;
 use libc::STDOUT_FILENO;
 
+// All parts so far.
 pub struct Report {
     pub all: Tally,
-    pub parts: usize,
-    pub len: usize,
-    pub text: [u8; 4096],
+    pub parts: u64,
+}
+
+struct Line {
+    len: usize,
+    text: [u8; 320],
 }
 
 pub fn empty() -> Report {
     Report {
         all: none(),
         parts: 0,
-        len: 0,
-        text: [0; 4096],
     }
 }
 
-// The report with some bytes more. What does not fit is left out.
-fn with_bytes(r: Report, bytes: &[u8]) -> Report {
-    let mut next = r;
+// The line with some bytes more. What does not fit is left out.
+fn with_bytes(l: Line, bytes: &[u8]) -> Line {
+    let mut next = l;
     for i in 0..bytes.len() {
         let at = next.len;
-        if at < 4096 {
+        if at < 320 {
             next.text[at] = bytes[i];
             next.len = at + 1;
         }
@@ -34,38 +36,38 @@ fn with_bytes(r: Report, bytes: &[u8]) -> Report {
 }
 
 // Some bytes and a number.
-fn with_number(r: Report, bytes: &[u8], x: u64) -> Report {
+fn with_number(l: Line, bytes: &[u8], x: u64) -> Line {
     let mut digits = [0u8; 20];
     let k = io::decimal(x, &mut digits);
-    with_bytes(with_bytes(r, bytes), &digits[..k])
+    with_bytes(with_bytes(l, bytes), &digits[..k])
 }
 
-// A line: a part and its size, how many comparisons it made, and how many differed.
-fn line(r: Report, name: &[u8], n: usize, t: Tally) -> Report {
-    let a = with_number(r, name, n as u64);
-    let b = with_number(a, b": ", t.made);
-    with_bytes(with_number(b, b" compared, ", t.differed), b" differed\n")
-}
-
-// The line of a part, which counts in the totals.
-pub fn part(r: Report, name: &[u8], n: usize, t: Tally) -> Report {
-    let mut next = line(r, name, n, t);
-    next.all = sum(r.all, t);
-    next.parts = std::num::wrapping_add_usize(r.parts, 1);
+// How many answers had each number, where there are any.
+fn with_given(l: Line, given: [u64; 13]) -> Line {
+    let mut next = with_number(l, b"; 0: ", given[0]);
+    for k in 1..13 {
+        if given[k] != 0 {
+            next = with_number(with_number(next, b", ", k as u64), b": ", given[k]);
+        }
+    }
     next
 }
 
-pub fn total(r: Report) -> Report {
-    line(r, b"all parts, ", r.parts, r.all)
+// Prints a part and its size, how many comparisons it made, how many differed, and the numbers that were given.
+fn print(name: &[u8], n: u64, t: Tally) {
+    let empty = Line {
+        len: 0,
+        text: [0; 320],
+    };
+    let a = with_number(with_number(empty, name, n), b": ", t.made);
+    let b = with_bytes(with_number(a, b" compared, ", t.differed), b" differed");
+    let given = t.given;
+    let c = with_bytes(with_given(b, given), b"\n");
+    let text = c.text;
+    print_array(&text, c.len);
 }
 
-// The whole text is written at once.
-pub fn print(r: Report) {
-    let text = r.text;
-    print_array(&text, r.len);
-}
-
-fn print_array(text: &[u8; 4096], len: usize) {
+fn print_array(text: &[u8; 320], len: usize) {
     print_front(text, len);
 }
 
@@ -73,4 +75,19 @@ fn print_front(text: &[u8], len: usize) {
     if len <= text.len() {
         io::write_all(STDOUT_FILENO, &text[0..len]);
     }
+}
+
+// The line of a part, which counts in the totals.
+pub fn part(r: Report, name: &[u8], n: usize, t: Tally) -> Report {
+    print(name, n as u64, t);
+    let all = r.all;
+    Report {
+        all: sum(all, t),
+        parts: std::num::wrapping_add_u64(r.parts, 1),
+    }
+}
+
+pub fn total(r: Report) {
+    let all = r.all;
+    print(b"all parts, ", r.parts, all);
 }

@@ -1,7 +1,9 @@
-// Whether the engine's answers are the naive ones, field by field.
+// One comparison each: whether an answer of the engine is the naive one, field by field. It is noted in a tally.
+use crate::tally::Tally;
+use crate::tally::noted;
+use code::CorrectedAnswer;
 use code::DecodeAnswer;
 use code::Verdict;
-use coordinates::Coordinates;
 use engine::Applied;
 use engine::Judged;
 use engine::ReadAnswer;
@@ -9,7 +11,10 @@ use group::Changed;
 use group::Group;
 use naive::machine::Answer;
 use naive::orders::OrderFound;
+use naive::orders::cells_of;
+use naive::pairs::NumberFound;
 use naive::words::Reading;
+use naive::words::first_difference;
 use order::Order;
 use order::OrderAnswer;
 use order::Outcome;
@@ -43,6 +48,11 @@ pub fn outcome(o: Outcome) -> u8 {
     }
 }
 
+// A yes is 1.
+pub fn as_number(yes: bool) -> u32 {
+    if yes { 1 } else { 0 }
+}
+
 // The place that a verdict names, 0 for clean.
 fn place(v: Verdict) -> u8 {
     match v {
@@ -51,31 +61,11 @@ fn place(v: Verdict) -> u8 {
     }
 }
 
-pub fn orders(a: Order, b: Order) -> bool {
-    for i in 0..12 {
-        if a.cells[i].0 != b.cells[i].0 {
-            return false;
-        }
+fn orders(a: Order, b: Order) -> bool {
+    if a.len != b.len {
+        return false;
     }
-    a.len == b.len
-}
-
-pub fn ranks(a: Ranks, b: Ranks) -> bool {
-    for i in 0..12 {
-        if a.ranks[i].0 != b.ranks[i].0 {
-            return false;
-        }
-    }
-    a.len == b.len
-}
-
-pub fn coordinates(a: Coordinates, b: Coordinates) -> bool {
-    for i in 0..11 {
-        if a.values[i] != b.values[i] {
-            return false;
-        }
-    }
-    a.len == b.len
+    first_difference(cells_of(a), cells_of(b)) == 0
 }
 
 pub fn signed(a: [i8; 12], b: [i8; 12]) -> bool {
@@ -112,7 +102,7 @@ fn pushes(a: [Push; 11], b: [Push; 11]) -> bool {
     true
 }
 
-pub fn groups(a: Group, b: Group) -> bool {
+fn groups(a: Group, b: Group) -> bool {
     let levels = a.levels;
     let other_levels = b.levels;
     if !rows(levels, other_levels) {
@@ -129,124 +119,130 @@ pub fn groups(a: Group, b: Group) -> bool {
     a.written == b.written
 }
 
-pub fn order_answers(a: OrderAnswer, b: OrderFound) -> bool {
+// An outcome alone.
+pub fn checked(t: Tally, a: Outcome, number: u8) -> Tally {
+    noted(t, number, outcome(a) == number)
+}
+
+// A number, and a value that is 0 beside a refusal.
+pub fn value(t: Tally, number: u8, value: u32, b: NumberFound) -> Tally {
+    noted(t, b.number, number == b.number && value == b.value)
+}
+
+pub fn order_answer(t: Tally, a: OrderAnswer, b: OrderFound) -> Tally {
     let found = a.outcome;
     let order = a.order;
     let other = b.order;
+    noted(
+        t,
+        b.number,
+        outcome(found) == b.number && orders(order, other),
+    )
+}
+
+// A symbol and a verdict.
+fn readings(symbol: u32, verdict: Verdict, b: Reading) -> bool {
+    if b.number != 0 {
+        return false;
+    }
+    if symbol != b.symbol {
+        return false;
+    }
+    place(verdict) == b.place
+}
+
+fn is_decoded(a: DecodeAnswer, b: Reading) -> bool {
+    match a {
+        DecodeAnswer::Refused(r) => refusal(r) == b.number,
+        DecodeAnswer::Decoded { symbol, verdict } => readings(symbol, verdict, b),
+    }
+}
+
+pub fn decoded(t: Tally, a: DecodeAnswer, b: Reading) -> Tally {
+    noted(t, b.number, is_decoded(a, b))
+}
+
+// The reading and the word.
+pub fn corrected(t: Tally, a: CorrectedAnswer, b: Reading) -> Tally {
+    let answer = a.answer;
+    let word = a.word;
+    let other = b.word;
+    noted(t, b.number, is_decoded(answer, b) && orders(word, other))
+}
+
+pub fn read(t: Tally, a: ReadAnswer, b: Reading) -> Tally {
+    let same = match a {
+        ReadAnswer::Refused(r) => refusal(r) == b.number,
+        ReadAnswer::Read { symbol, verdict } => readings(symbol, verdict, b),
+    };
+    noted(t, b.number, same)
+}
+
+// A record, the pushes with their count, and the pulses.
+fn is_written(a: Written, b: Answer) -> bool {
+    let found = a.outcome;
+    let group = a.group;
+    let other = b.group;
     if outcome(found) != b.number {
         return false;
     }
-    orders(order, other)
-}
-
-// A program of pushes beside its count and pulses.
-fn programs(a: Written, b: Answer) -> bool {
-    let list = a.pushes;
-    let other = b.pushes;
     if a.pulses != b.pulses {
         return false;
     }
     if a.count != b.count {
         return false;
     }
-    pushes(list, other)
-}
-
-// An answer with no reading, no program and no symbol.
-fn is_quiet(b: Answer) -> bool {
-    if b.judged {
-        return false;
-    }
-    if b.symbol != 0 {
-        return false;
-    }
-    if b.pulses != 0 {
-        return false;
-    }
-    b.count == 0
-}
-
-pub fn changed(a: Changed, b: Answer) -> bool {
-    let found = a.outcome;
-    let group = a.group;
-    let other = b.group;
-    if outcome(found) != b.number {
-        return false;
-    }
-    if !is_quiet(b) {
+    let list = a.pushes;
+    let other_list = b.pushes;
+    if !pushes(list, other_list) {
         return false;
     }
     groups(group, other)
 }
 
-pub fn written(a: Written, b: Answer) -> bool {
-    let found = a.outcome;
-    let group = a.group;
-    let other = b.group;
-    if outcome(found) != b.number {
-        return false;
-    }
-    if !programs(a, b) {
-        return false;
-    }
-    groups(group, other)
+// The answer to a write or a store.
+pub fn written(t: Tally, a: Written, b: Answer) -> Tally {
+    noted(t, b.number, is_written(a, b))
 }
 
-// The verdict and the symbol of a reading.
-fn judged(j: Judged, symbol: u32, b: Answer) -> bool {
-    if symbol != b.symbol {
-        return false;
-    }
+// Whether there is a verdict beside an answer, and which.
+fn is_judged(j: Judged, b: Answer) -> bool {
     match j {
         Judged::Nothing => !b.judged,
-        Judged::By(v) => { if b.judged { place(v) == b.place } else { false } }
+        Judged::By(v) => b.judged && place(v) == b.place,
     }
 }
 
-pub fn applied(a: Applied, b: Answer) -> bool {
+// The answer to any call of the machine.
+pub fn applied(t: Tally, a: Applied, b: Answer) -> Tally {
     let verdict = a.verdict;
-    if !judged(verdict, a.symbol, b) {
-        return false;
-    }
     let outcome = a.outcome;
     let group = a.group;
     let pushes = a.pushes;
-    written(
-        Written {
-            outcome,
-            group,
-            pulses: a.pulses,
-            count: a.count,
-            pushes,
-        },
-        b,
+    let w = Written {
+        outcome,
+        group,
+        pulses: a.pulses,
+        count: a.count,
+        pushes,
+    };
+    noted(
+        t,
+        b.number,
+        is_judged(verdict, b) && a.symbol == b.symbol && is_written(w, b),
     )
 }
 
-pub fn read(a: ReadAnswer, b: Answer) -> bool {
-    match a {
-        ReadAnswer::Refused(r) => refusal(r) == b.number,
-        ReadAnswer::Read { symbol, verdict } => {
-            if b.number == 0 {
-                judged(Judged::By(verdict), symbol, b)
-            } else {
-                false
-            }
-        }
-    }
-}
-
-pub fn decoded(a: DecodeAnswer, b: Reading) -> bool {
-    match a {
-        DecodeAnswer::Refused(r) => refusal(r) == b.number,
-        DecodeAnswer::Decoded { symbol, verdict } => {
-            if b.number != 0 {
-                return false;
-            }
-            if symbol != b.symbol {
-                return false;
-            }
-            place(verdict) == b.place
-        }
-    }
+// The answer to a call that changes the record and tells nothing else.
+pub fn changed(t: Tally, a: Changed, b: Answer) -> Tally {
+    let outcome = a.outcome;
+    let group = a.group;
+    let w = Written {
+        outcome,
+        group,
+        pulses: 0,
+        count: 0,
+        pushes: writing::zero_pushes(),
+    };
+    written(t, w, b)
 }

@@ -1,10 +1,8 @@
 // A fixed sample of orders, groups and calls: each is made from numbers that say which one it is, so that nothing has to be kept.
 use group::Group;
 use naive::numbers::add;
-use naive::numbers::at as cell_at;
 use naive::numbers::at16;
 use naive::numbers::byte;
-use naive::numbers::put;
 use naive::orders::cells_of;
 use naive::orders::placed;
 use naive::orders::with_cells;
@@ -102,10 +100,8 @@ pub fn word(n: usize, s: usize) -> Order {
 
 // An order of n cells with two neighbours exchanged.
 pub fn exchanged(o: Order, n: usize, s: usize) -> Order {
-    let at = below(std::num::wrapping_sub_usize(n, 1), s, 40);
-    let cells = cells_of(o);
-    let once = put(cells, at, cell_at(cells, add(at, 1)));
-    with_cells(put(once, add(at, 1), cell_at(cells, at)), n)
+    let k = add(below(std::num::wrapping_sub_usize(n, 1), s, 40), 1);
+    with_cells(naive::words::exchanged(cells_of(o), k), n)
 }
 
 // A size that no group has.
@@ -162,6 +158,14 @@ pub fn low_group(n: usize, s: usize) -> Group {
     g
 }
 
+// A group that no order can be written to: the caps are 0 or 1.
+pub fn worn_group(n: usize, s: usize) -> Group {
+    let mut g = low_group(n, s);
+    let caps = row(n, 2, s);
+    g.caps = caps;
+    g
+}
+
 // A group with low levels or any, and with full caps or any.
 pub fn group(n: usize, s: usize) -> Group {
     let mut g = low_group(n, s);
@@ -184,7 +188,7 @@ fn edge(s: usize) -> u16 {
     narrow(4094 + below(4, s, 76) % 4)
 }
 
-// A sampled group with another level, cap or size: mostly no group. A size that is one has at most a cell more, so that it is soon read.
+// A sampled group with another level, cap or size: mostly no group.
 pub fn forged(n: usize, s: usize) -> Group {
     let mut h = group(n, s);
     let at = below(12, s, 70);

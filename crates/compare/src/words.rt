@@ -1,26 +1,29 @@
 // The code: every word in turn, and a sample of orders that each word is held against on the way.
 use crate::machine;
-use crate::orders::is_value;
 use crate::same;
 use crate::sample;
 use crate::tally::Tally;
 use crate::tally::none;
 use crate::tally::noted;
 use code::WordsAnswer;
+use group::Group;
 use naive::numbers::add;
+use naive::numbers::wide64;
 use naive::orders::OrderFound;
 use naive::orders::cells_of;
 use naive::orders::no_order;
 use naive::orders::places;
 use naive::orders::with_cells;
 use naive::pairs::NumberFound;
-use naive::pairs::is_near;
+use naive::pairs::opposed;
+use naive::words::Listing;
 use naive::words::Reading;
 use naive::words::first;
 use naive::words::found;
 use naive::words::next_word;
 use naive::words::no_reading;
 use naive::words::word_cells;
+use naive::words::words_before;
 use order::Order;
 
 // The ranks of a sampled order.
@@ -64,7 +67,7 @@ fn near(all: [Held; 16], word: [u8; 12], n: usize) -> u32 {
     for k in 0..16 {
         let one = all[k];
         let ranks = one.ranks;
-        if is_near(ranks, word, n) {
+        if opposed(ranks, word, n, 1) < 2 {
             set = set | (1u32 << k);
         }
     }
@@ -78,10 +81,9 @@ fn has(set: u32, k: usize) -> bool {
 // Three comparisons of what is read at sampled order k: decoded, and read and scrubbed in a group that shows it.
 fn each_reading(t: Tally, n: usize, k: usize, r: Reading) -> Tally {
     let o = sampled(n, k);
-    let t1 = noted(t, same::decoded(code::decode(o), r));
     let shown = naive::machine::write(sample::low_group(n, k), o);
     let g = shown.group;
-    machine::each_reading(t1, g, r)
+    machine::each_reading(same::corrected(t, code::corrected(o), r), g, r)
 }
 
 // The readings of the sampled orders in a set, which are near this word.
@@ -107,39 +109,47 @@ fn lost(t: Tally, set: u32, n: usize) -> Tally {
     next
 }
 
-// Three comparisons of a word that stands at this place of the list.
-fn each_word(t: Tally, cells: [u8; 12], n: usize, symbol: u32) -> Tally {
+// Five comparisons of a word that stands at this place of the list: the naive count of the words before it, the word, what it reads as, and a
+// store of it that is accepted and one that is worn.
+fn each_word(t: Tally, l: Listing, cells: [u8; 12], symbol: u32) -> Tally {
+    let n = l.n;
+    let values = l.values;
     let order = with_cells(cells, n);
     let word = OrderFound { number: 0, order };
-    let t1 = noted(t, same::order_answers(code::codeword(n, symbol), word));
-    let t2 = noted(
-        t1,
-        same::decoded(code::decode(order), found(cells, cells, n, symbol)),
-    );
-    machine::each_store(t2, n, symbol, word)
+    let t1 = noted(t, 0, words_before(values, n) == symbol);
+    let t2 = same::order_answer(t1, code::codeword(n, symbol), word);
+    let t3 = same::corrected(t2, code::corrected(order), found(cells, cells, n, symbol));
+    let t4 = store(t3, sample::low_group(n, wide64(symbol)), symbol, word);
+    store(t4, sample::worn_group(n, wide64(symbol)), symbol, word)
 }
 
-fn words(n: usize, b: NumberFound) -> bool {
+// One comparison of a symbol stored, whose word is known.
+fn store(t: Tally, g: Group, symbol: u32, word: OrderFound) -> Tally {
+    same::written(
+        t,
+        engine::store(g, symbol),
+        naive::machine::stored(g, symbol, word),
+    )
+}
+
+fn words(t: Tally, n: usize, number: u8, value: u32) -> Tally {
+    let b = NumberFound { number, value };
     match code::words(n) {
-        WordsAnswer::Refused(r) => same::refusal(r) == b.number,
-        WordsAnswer::Words(k) => is_value(b, k),
+        WordsAnswer::Refused(r) => same::value(t, same::refusal(r), 0, b),
+        WordsAnswer::Words(k) => same::value(t, 0, k, b),
     }
 }
 
 // What is left when the list of words ends after count of them: the count itself, the two symbols that follow, and the last number.
 fn ended(t: Tally, n: usize, count: u32) -> Tally {
-    let b = NumberFound {
-        number: 0,
-        value: count,
-    };
-    let t1 = noted(t, words(n, b));
-    let t2 = noted(t1, is_no_symbol(n, count));
-    let t3 = noted(t2, is_no_symbol(n, std::num::wrapping_add_u32(count, 1)));
-    noted(t3, is_no_symbol(n, 4294967295))
+    let t1 = words(t, n, 0, count);
+    let t2 = no_word(t1, n, count, 5);
+    let t3 = no_word(t2, n, std::num::wrapping_add_u32(count, 1), 5);
+    no_word(t3, n, 4294967295, 5)
 }
 
-fn is_no_symbol(n: usize, symbol: u32) -> bool {
-    same::order_answers(code::codeword(n, symbol), no_order(5))
+fn no_word(t: Tally, n: usize, symbol: u32, number: u8) -> Tally {
+    same::order_answer(t, code::codeword(n, symbol), no_order(number))
 }
 
 fn is_taken(symbol: u32, stride: u32) -> bool {
@@ -177,7 +187,7 @@ pub fn through(n: usize, stride: u32) -> Tally {
         }
         let cells = word_cells(l);
         if is_taken(symbol, stride) {
-            t = each_word(t, cells, n, symbol);
+            t = each_word(t, l, cells, symbol);
         }
         let set = near(all, places(cells, n), n);
         if set != 0 {
@@ -189,24 +199,18 @@ pub fn through(n: usize, stride: u32) -> Tally {
     t
 }
 
-// Sizes that no group has: the number of words, a word and a new group. And a new group of each size from 0.
+// Four comparisons: of a size that no group has, the number of words, a word and a new group; and a new group of size k.
+fn each_size(t: Tally, k: usize) -> Tally {
+    let n = sample::size(k);
+    let t1 = no_word(words(t, n, 1, 0), n, 0, 1);
+    let t2 = same::changed(t1, group::open(n), naive::machine::open(n));
+    same::changed(t2, group::open(k), naive::machine::open(k))
+}
+
 pub fn every_size() -> Tally {
     let mut t = none();
     for k in 0..20 {
-        let n = sample::size(k);
-        t = noted(
-            t,
-            words(
-                n,
-                NumberFound {
-                    number: 1,
-                    value: 0,
-                },
-            ),
-        );
-        t = noted(t, same::order_answers(code::codeword(n, 0), no_order(1)));
-        t = noted(t, machine::open(n));
-        t = noted(t, machine::open(k));
+        t = each_size(t, k);
     }
     t
 }

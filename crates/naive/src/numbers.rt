@@ -30,8 +30,8 @@ pub fn add(x: usize, y: usize) -> usize {
     std::num::wrapping_add_usize(x, y)
 }
 
-pub fn product(x: u8, y: u8) -> u32 {
-    (x as u32) * (y as u32)
+pub fn product(x: u8, y: u8) -> usize {
+    (x as usize) * (y as usize)
 }
 
 // The number at an index, 0 where there is none.

@@ -44,7 +44,7 @@ pub fn with_cells(cells: [u8; 12], n: usize) -> Order {
     }
 }
 
-fn ranks_in(r: Ranks) -> [u8; 12] {
+pub fn ranks_in(r: Ranks) -> [u8; 12] {
     let mut ranks = [0u8; 12];
     for i in 0..12 {
         ranks[i] = r.ranks[i].0;
@@ -52,7 +52,7 @@ fn ranks_in(r: Ranks) -> [u8; 12] {
     ranks
 }
 
-fn with_ranks(ranks: [u8; 12], n: usize) -> Ranks {
+pub fn with_ranks(ranks: [u8; 12], n: usize) -> Ranks {
     let mut held = [Rank(0); 12];
     for i in 0..12 {
         held[i] = Rank(ranks[i]);
@@ -102,6 +102,9 @@ fn lists_each_once(values: [u8; 12], n: usize) -> bool {
 
 pub fn is_order(o: Order, n: usize) -> bool {
     if o.len != n {
+        return false;
+    }
+    if 12 < n {
         return false;
     }
     lists_each_once(cells_of(o), n)
@@ -226,26 +229,34 @@ fn coordinate(cells: [u8; 12], n: usize, i: usize) -> usize {
     count
 }
 
+// The coordinates of n cells, coordinate i at index i.
+pub fn coordinates_at(cells: [u8; 12], n: usize) -> [u8; 12] {
+    let mut values = [0u8; 12];
+    for i in 1..12 {
+        if i < n {
+            values[i] = byte(coordinate(cells, n, i));
+        }
+    }
+    values
+}
+
 pub fn coordinates_of(o: Order) -> CoordinatesFound {
     let number = check_order(o);
     let mut values = [0u8; 11];
-    let n = o.len;
     if number != 0 {
         return CoordinatesFound {
             number,
             coordinates: Coordinates { len: 0, values },
         };
     }
-    let cells = cells_of(o);
+    let all = coordinates_at(cells_of(o), o.len);
     for k in 0..11 {
-        if add(k, 1) < n {
-            values[k] = byte(coordinate(cells, n, add(k, 1)));
-        }
+        values[k] = all[k + 1];
     }
     CoordinatesFound {
         number: 0,
         coordinates: Coordinates {
-            len: std::num::wrapping_sub_usize(n, 1),
+            len: std::num::wrapping_sub_usize(o.len, 1),
             values,
         },
     }

@@ -59,25 +59,16 @@ fn opposed_to(u: [u8; 12], v: [u8; 12], b: usize) -> u32 {
     count
 }
 
-// The number of cell pairs that two lists of ranks order oppositely.
-pub fn opposed(u: [u8; 12], v: [u8; 12], n: usize) -> u32 {
+// The number of cell pairs that two lists of ranks order oppositely, or some number above `most` where there are more.
+pub fn opposed(u: [u8; 12], v: [u8; 12], n: usize, most: u32) -> u32 {
     let mut count: u32 = 0;
     for b in 0..n {
         count = std::num::wrapping_add_u32(count, opposed_to(u, v, b));
-    }
-    count
-}
-
-// Whether two lists of ranks have at most one opposed pair.
-pub fn is_near(u: [u8; 12], v: [u8; 12], n: usize) -> bool {
-    let mut count: u32 = 0;
-    for b in 0..n {
-        count = std::num::wrapping_add_u32(count, opposed_to(u, v, b));
-        if 1 < count {
-            return false;
+        if most < count {
+            return count;
         }
     }
-    true
+    count
 }
 
 pub fn distance(u: Order, v: Order) -> NumberFound {
@@ -89,7 +80,7 @@ pub fn distance(u: Order, v: Order) -> NumberFound {
     let to = places(cells_of(v), u.len);
     NumberFound {
         number: 0,
-        value: opposed(from, to, u.len),
+        value: opposed(from, to, u.len, 66),
     }
 }
 

@@ -6,10 +6,10 @@ use Rattle.compare.proofs.machine.list.Statement.{statement}
 use Rattle.compare.proofs.machine.list.Tie as tie
 
 abbrev Inv-loop : tie.InvT-loop
-Inv-loop n s t₀ g₀ step₀ t g step = Unit {0}
+Inv-loop n s all₀ g₀ step₀ all g step = Unit {0}
 
 abbrev μ-loop : tie.MeasureT-loop
-μ-loop n s t₀ g₀ step₀ t g step = 250 - step
+μ-loop n s all₀ g₀ step₀ all g step = 250 - step
 
 pub list-spec : {M : Type 1} → statement M
 list-spec =
@@ -18,10 +18,7 @@ list-spec =
     Inv-loop
     μ-loop
     (λ c κs. search needs)
-    (λ c κs. search needs)
     (λ c. search needs)
-    (λ c κs. search needs)
-    (λ c κs. search needs)
     (λ c κs. search needs)
     (λ c κs. search needs)
     (λ c κs. search needs)

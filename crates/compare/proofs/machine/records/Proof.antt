@@ -6,10 +6,10 @@ use Rattle.compare.proofs.machine.records.Statement.{statement}
 use Rattle.compare.proofs.machine.records.Tie as tie
 
 abbrev Inv-loop : tie.InvT-loop
-Inv-loop n t₀ s₀ t s = Unit {0}
+Inv-loop n many t₀ s₀ t s = Unit {0}
 
 abbrev μ-loop : tie.MeasureT-loop
-μ-loop n t₀ s₀ t s = 1000 - s
+μ-loop n many t₀ s₀ t s = many - s
 
 pub records-spec : {M : Type 1} → statement M
 records-spec =

@@ -6,10 +6,10 @@ use Rattle.compare.proofs.orders.every_second.Statement.{statement}
 use Rattle.compare.proofs.orders.every_second.Tie as tie
 
 abbrev Inv-loop : tie.InvT-loop
-Inv-loop u n t₀ l₀ counter₀ t l counter = Unit {0}
+Inv-loop u n all₀ l₀ counter₀ all l counter = Unit {0}
 
 abbrev μ-loop : tie.MeasureT-loop
-μ-loop u n t₀ l₀ counter₀ t l counter = 720 - counter
+μ-loop u n all₀ l₀ counter₀ all l counter = 720 - counter
 
 pub every-second-spec : {M : Type 1} → statement M
 every-second-spec =
@@ -17,7 +17,6 @@ every-second-spec =
     (tie.spec
     Inv-loop
     μ-loop
-    (λ c κs. search needs)
     (λ c κs. search needs)
     (λ c. search needs)
     (λ c κs. search needs)

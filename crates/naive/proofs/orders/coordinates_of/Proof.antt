@@ -6,10 +6,10 @@ use Rattle.naive.proofs.orders.coordinates_of.Statement.{statement}
 use Rattle.naive.proofs.orders.coordinates_of.Tie as tie
 
 abbrev Inv-loop : tie.InvT-loop
-Inv-loop number values₀ n cells k₀ values k = Unit {0}
+Inv-loop o number values₀ all k₀ values k = Unit {0}
 
 abbrev μ-loop : tie.MeasureT-loop
-μ-loop number values₀ n cells k₀ values k = 11 - k
+μ-loop o number values₀ all k₀ values k = 11 - k
 
 pub coordinates-of-spec : {M : Type 1} → statement M
 coordinates-of-spec =
@@ -20,11 +20,10 @@ coordinates-of-spec =
     (λ c κs. search needs)
     (λ c. search needs)
     (λ c κs. search needs)
+    (λ c κs. search needs)
     (λ c. search needs)
-    (λ c κs. search needs)
-    (λ c κs. search needs)
-    (λ c κs. search needs)
-    (λ c κs. search needs)
+    (λ c. search needs)
+    (λ c. search needs)
     (λ c. search needs)
     (λ c. search needs)
     (λ c. search needs)

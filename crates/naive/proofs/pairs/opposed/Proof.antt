@@ -6,10 +6,10 @@ use Rattle.naive.proofs.pairs.opposed.Statement.{statement}
 use Rattle.naive.proofs.pairs.opposed.Tie as tie
 
 abbrev Inv-loop : tie.InvT-loop
-Inv-loop u v n count₀ b₀ count b = Unit {0}
+Inv-loop u v n most count₀ b₀ count b = Unit {0}
 
 abbrev μ-loop : tie.MeasureT-loop
-μ-loop u v n count₀ b₀ count b = n - b
+μ-loop u v n most count₀ b₀ count b = n - b
 
 pub opposed-spec : {M : Type 1} → statement M
 opposed-spec =
@@ -20,6 +20,7 @@ opposed-spec =
     (λ c. search needs)
     (λ c κs. search needs)
     (λ c κs. search needs)
+    (λ c. search needs)
     (λ c. search needs)
     (λ c. search needs)
     (λ c. search needs)

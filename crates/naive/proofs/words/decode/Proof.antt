@@ -6,10 +6,10 @@ use Rattle.naive.proofs.words.decode.Statement.{statement}
 use Rattle.naive.proofs.words.decode.Tie as tie
 
 abbrev Inv-loop : tie.InvT-loop
-Inv-loop number n cells ranks l₀ symbol₀ l symbol = Unit {0}
+Inv-loop number n cells k₀ k = Unit {0}
 
 abbrev μ-loop : tie.MeasureT-loop
-μ-loop number n cells ranks l₀ symbol₀ l symbol = 479001600 - symbol
+μ-loop number n cells k₀ k = n - k
 
 pub decode-spec : {M : Type 1} → statement M
 decode-spec =
@@ -21,17 +21,13 @@ decode-spec =
     (λ c κs. search needs)
     (λ c. search needs)
     (λ c κs. search needs)
-    (λ c κs. search needs)
-    (λ c κs. search needs)
-    (λ c. search needs)
-    (λ c κs. search needs)
     (λ c. search needs)
     (λ c κs. search needs)
     (λ c κs. search needs)
     (λ c κs. search needs)
     (λ c κs. search needs)
-    (λ c. search needs)
     (λ c κs. search needs)
+    (λ c. search needs)
     (λ c. search needs)
     (λ c. search needs)
     (λ c. search needs)

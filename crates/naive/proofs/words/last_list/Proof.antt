@@ -1,23 +1,22 @@
--- `compare::every_word` is safe and ends. The measure is what is left of the range.
+-- `naive::words::last_list` is safe and ends. The measure is what is left of the range.
 -- Assumes nothing.
 use Prim.Native.Nat.{_-_}
 use borrow.Author.Needs.{needs}
-use Rattle.compare.proofs.every_word.Statement.{statement}
-use Rattle.compare.proofs.every_word.Tie as tie
+use Rattle.naive.proofs.words.last_list.Statement.{statement}
+use Rattle.naive.proofs.words.last_list.Tie as tie
 
 abbrev Inv-loop : tie.InvT-loop
-Inv-loop next₀ n₀ t4 next n = Unit {0}
+Inv-loop n most values₀ k₀ values k = Unit {0}
 
 abbrev μ-loop : tie.MeasureT-loop
-μ-loop next₀ n₀ t4 next n = 13 - n
+μ-loop n most values₀ k₀ values k = 144 - k
 
-pub every-word-spec : {M : Type 1} → statement M
-every-word-spec =
+pub last-list-spec : {M : Type 1} → statement M
+last-list-spec =
     tie.close
     (tie.spec
     Inv-loop
     μ-loop
-    (λ c. search needs)
     (λ c. search needs)
     (λ c κs. search needs)
     (λ c κs. search needs)
