@@ -1,4 +1,5 @@
 // The write that fills a lent list of pushes.
+ghost use Prim.Native.Nat.{_≤_};
 use crate::same;
 use crate::sample;
 use crate::tally::Tally;
@@ -8,8 +9,25 @@ use group::Group;
 use naive::machine::Answer;
 use order::Cell;
 use order::Order;
+use push_list::WrittenInto;
 use writing::Push;
 use writing::Written;
+
+// The answer, and the list that was lent.
+struct Lent {
+    answer: WrittenInto,
+    list: [Push; 12],
+}
+
+// The write, where the first places of a list are lent, as many as there is room. It alone has a slice of pushes here, and is proved by
+// hand.
+fn lend(g: Group, target: Order, list: [Push; 12], room: usize) -> Lent
+    requires { ⌜ room ≤ 12 ⌝ }
+{
+    let mut lent = list;
+    let answer = push_list::write_into(g, target, &mut lent[..room]);
+    Lent { answer, list: lent }
+}
 
 // What stands in a place of the list before the call: no push is like it, so a place that is touched shows.
 fn mark() -> Push {
@@ -41,9 +59,11 @@ fn same_list(list: [Push; 12], b: Answer) -> bool {
 }
 
 // Two comparisons where so many of twelve places are lent: the answer, and the list.
-fn lend(t: Tally, g: Group, target: Order, room: usize) -> Tally {
+fn each(t: Tally, g: Group, target: Order, room: usize) -> Tally
+    requires { ⌜ room ≤ 12 ⌝ }
+{
     let m = mark();
-    let lent = push_list::lend(g, target, [m; 12], room);
+    let lent = lend(g, target, [m; 12], room);
     let b = naive::machine::write_into(g, target, room);
     let answer = lent.answer;
     let list = lent.list;
@@ -61,23 +81,22 @@ fn lend(t: Tally, g: Group, target: Order, room: usize) -> Tally {
     noted(same::written(t, written, b), b.number, same_list(list, b))
 }
 
-// How many places are lent: 0 to 13, or more than there are.
-fn room(s: usize) -> usize {
-    let places = s % 15;
-    if places < 14 {
-        places
-    } else {
-        18446744073709551615
+// Lists of 0 to 12 places.
+fn every_room(t: Tally, g: Group, target: Order) -> Tally {
+    let mut next = t;
+    for room in 0..13 {
+        next = each(next, g, target, room);
     }
+    next
 }
 
 // Sampled records of n cells, each as it is and forged.
 pub fn lists(n: usize) -> Tally {
     let mut t = none();
-    for s in 0..1000 {
+    for s in 0..200 {
         let target = sample::target(n, s);
-        t = lend(t, sample::group(n, s), target, room(s));
-        t = lend(t, sample::forged(n, s), target, room(s));
+        t = every_room(t, sample::group(n, s), target);
+        t = every_room(t, sample::forged(n, s), target);
     }
     t
 }

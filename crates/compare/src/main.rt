@@ -34,7 +34,7 @@ enum Part {
     Alike,
     // 40 lists of 250 calls, 2 comparisons each: every number from 0 to 9.
     CallLists,
-    // 1,000 sampled records and as many forged ones, 2 comparisons each: 0, 1, 2, 4, 8, 10.
+    // 200 sampled records and as many forged ones, lists of 0 to 12 places, 2 comparisons each: 0, 1, 2, 4, 8, 10.
     LentLists,
 }
 

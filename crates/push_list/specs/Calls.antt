@@ -7,9 +7,7 @@
 --   toldInto a              what the answer beside a lent list says: its number, and what it carries
 --   filled k ps list        the first k of the pushes, then the later places of the list as they were
 --   listAfter g o list      the lent list after the call: the pushes first and the later places untouched; a refusal leaves it as it was
---   toldLent a              what the answer to `lend` says: that of the write, and the list
---   lendOf g o list room    the answer where the first `room` of twelve places are lent, all twelve where room is more
-use Prim.Native.Nat.{ℕ, _-_, min}
+use Prim.Native.Nat.{ℕ, _-_}
 use mathlib.Core.Bool.{Bool}
 use mathlib.Core.List.{List, _∷_, _++_}
 use lib.Dec.{leb}
@@ -24,7 +22,6 @@ use Rattle.writing.specs.declared.Push.{Push}
 use Rattle.group.specs.Record.{groupChecks}
 use Rattle.writing.specs.Calls.{Program, pushChecks, pushed, unpushed}
 use Rattle.push_list.specs.declared.WrittenInto.{WrittenInto}
-use Rattle.push_list.specs.declared.Lent.{Lent}
 
 -- ---- the answer
 
@@ -55,13 +52,3 @@ unfoldable pub listAfter : Group → Order → List Push → List Push
 listAfter g o list =
     let t = writeIntoOf g o (length list) in
     ifDone (t .number) (filled (t .value .count) (t .value .pushes) list) list
-
--- ---- a list held by value
-
-abbrev pub toldLent : Lent → Told Carried × List Push
-toldLent a = (toldInto (a .answer), a .list)
-
-unfoldable pub lendOf : Group → Order → List Push → ℕ → Told Carried × List Push
-lendOf g o list room =
-    let places = min room 12 in
-    (carriedOf (writeIntoOf g o places), listAfter g o (take places list) ++ drop places list)

@@ -1,7 +1,7 @@
 // The lent list of pushes (document 01: "The call that fills a lent list of pushes writes the pushes first and leaves the later places
-// untouched"). What is written there is decided by value, in `write_with_room`; only `fill`, `write_into` and `lend` have a slice of pushes,
-// and these three are proved by hand. Each public function takes any record; equations fix its answer and its list. Proved
-// besides: with room enough the answer is that of `writing::write`, and the list starts with its pushes (proofs/Written).
+// untouched"). What is written there is decided by value, in `write_with_room`; only `fill` and `write_into` have a slice of pushes, and these
+// two are proved by hand. Each public function takes any record; equations fix its answer and its list. Proved besides: with room enough the
+// answer is that of `writing::write`, and the list starts with its pushes (proofs/Written).
 use group::Group;
 use order::Order;
 use order::Outcome;
@@ -9,10 +9,10 @@ use order::Refusal;
 use writing::Push;
 use writing::Written;
 ghost use mathlib.Core.Path.{_≡_};
-ghost use Prim.Native.Nat.{_≤_, min};
+ghost use Prim.Native.Nat.{_≤_};
 ghost use lib.ListN.{length};
 ghost use Rattle.writing.specs.Calls.{toldWritten};
-ghost use Rattle.push_list.specs.Calls.{writeIntoOf, carriedOf, toldInto, filled, listAfter, toldLent, lendOf};
+ghost use Rattle.push_list.specs.Calls.{writeIntoOf, carriedOf, toldInto, filled, listAfter};
 ghost use Rattle.push_list.specs.Steps.{toldPlan};
 
 // The answer of a write into a lent list: the pushes are the first count places of the list, from low to high.
@@ -21,12 +21,6 @@ pub struct WrittenInto {
     pub group: Group,
     pub pulses: u32,
     pub count: usize,
-}
-
-// The answer of `lend`, and the list that was lent.
-pub struct Lent {
-    pub answer: WrittenInto,
-    pub list: [Push; 12],
 }
 
 // What a write into a list decides before the list is touched: its answer, and the pushes, whose count is the answer's.
@@ -95,24 +89,4 @@ fn fill(list: &mut [Push], pushes: [Push; 11], count: usize)
         list[i] = pushes[i];
         i += 1;
     }
-}
-
-// The same into the first room places of a list held by value, all twelve where more are wanted: its caller holds no slice of pushes, and
-// so is proved without a walk by hand.
-pub fn lend(g: Group, target: Order, list: [Push; 12], room: usize) -> Lent
-    ensures { λ r. ⌜ toldLent r ≡ lendOf g target list room ⌝ }
-{
-    let places = at_most_twelve(room);
-    let mut lent = list;
-    let answer = write_into(g, target, &mut lent[..places]);
-    Lent { answer, list: lent }
-}
-
-fn at_most_twelve(room: usize) -> usize
-    ensures { λ r. ⌜ r ≡ min room 12 ⌝ }
-{
-    if room < 12 {
-        return room;
-    }
-    12
 }

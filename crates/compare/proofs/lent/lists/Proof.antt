@@ -9,7 +9,7 @@ abbrev Inv-loop : tie.InvT-loop
 Inv-loop n t₀ s₀ t s = Unit {0}
 
 abbrev μ-loop : tie.MeasureT-loop
-μ-loop n t₀ s₀ t s = 1000 - s
+μ-loop n t₀ s₀ t s = 200 - s
 
 pub lists-spec : {M : Type 1} → statement M
 lists-spec =
@@ -19,8 +19,6 @@ lists-spec =
     μ-loop
     (λ c κs. search needs)
     (λ c. search needs)
-    (λ c κs. search needs)
-    (λ c κs. search needs)
     (λ c κs. search needs)
     (λ c κs. search needs)
     (λ c κs. search needs)
