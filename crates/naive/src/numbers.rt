@@ -8,7 +8,7 @@ pub fn wide32(x: u8) -> u32 {
     x as u32
 }
 
-pub fn wide16(x: u16) -> u32 {
+fn wide16(x: u16) -> u32 {
     x as u32
 }
 
