@@ -74,7 +74,7 @@ fn main() {
     r = each(r, Part::Lists, 0, 16);
     r = each(r, Part::SampledOrders, 7, 12);
     r = each(r, Part::Words, 3, 12);
-    // 20 sizes, 4 comparisons each: 10 new groups, all else refused 1.
+    // 20 sizes, 6 comparisons each: 10 new groups, 40 times no order, which is no refusal, all else refused 1.
     r = part(r, b"sizes, ", 20, words::every_size());
     // 27 levels, 64 caps and 2 marks, 22 calls each. Refused are: cells 0 and 4, leaked and worn, 3; symbol 2, 5; a scrub or read of a group
     // that is not marked, 6; and a cap of 0 worn to 1, 9.

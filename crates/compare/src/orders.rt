@@ -119,20 +119,16 @@ fn is_codeword(t: Tally, o: Order) -> Tally {
     }
 }
 
-// Whether the record is an order of as many cells as it says: no refusal, and 0 in the tally.
-fn is_order(t: Tally, o: Order) -> Tally {
-    noted(
-        t,
-        0,
-        order::is_order(o, o.len) == naive::orders::is_order(o, o.len),
-    )
+// Whether the record is an order of n cells: no refusal, and 0 in the tally.
+pub fn is_order(t: Tally, o: Order, n: usize) -> Tally {
+    noted(t, 0, order::is_order(o, n) == naive::orders::is_order(o, n))
 }
 
 // Eleven comparisons of one order, right or not.
 fn each(t: Tally, o: Order) -> Tally {
     let t1 = same::checked(t, order::check_order(o), naive::orders::check_order(o));
     let t2 = from_ranks(ranks_of(t1, o), o);
-    let t3 = order_of(is_order(t2, o), o);
+    let t3 = order_of(is_order(t2, o, o.len), o);
     let t4 = back(coordinates_of(t3, o), o);
     let t5 = from_coordinates(t4, as_coordinates(o));
     let r = naive::words::decode(o);

@@ -1,5 +1,6 @@
 // The code: every word in turn, and a sample of orders that each word is held against on the way.
 use crate::machine;
+use crate::orders::is_order;
 use crate::same;
 use crate::sample;
 use crate::tally::Tally;
@@ -199,12 +200,15 @@ pub fn through(n: usize, stride: u32) -> Tally {
     t
 }
 
-// Four comparisons: of a size that no group has, the number of words, a word and a new group; and a new group of size k.
+// Six comparisons: of a size that no group has, the number of words, a word, a new group, and whether zeros are an order; and a new group of
+// size k.
 fn each_size(t: Tally, k: usize) -> Tally {
     let n = sample::size(k);
     let t1 = no_word(words(t, n, 1, 0), n, 0, 1);
     let t2 = same::changed(t1, group::open(n), naive::machine::open(n));
-    same::changed(t2, group::open(k), naive::machine::open(k))
+    let t3 = is_order(t2, with_cells([0; 12], 0), n);
+    let t4 = is_order(t3, with_cells([0; 12], n), n);
+    same::changed(t4, group::open(k), naive::machine::open(k))
 }
 
 pub fn every_size() -> Tally {

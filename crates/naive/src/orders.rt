@@ -104,7 +104,7 @@ pub fn is_order(o: Order, n: usize) -> bool {
     if o.len != n {
         return false;
     }
-    if 12 < n {
+    if !is_size(n) {
         return false;
     }
     lists_each_once(cells_of(o), n)
