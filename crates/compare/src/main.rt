@@ -28,11 +28,11 @@ enum Part {
     // K / 256 and K / 4,096, rounded up. Then 16 sampled orders, 3 each, which a lost one refuses 7; and 4 for the end of the list, of which 3
     // are refused 5.
     Words,
-    // 1,000 sampled records and as many forged ones, 10 comparisons each: every number from 0 to 9.
+    // 1,000 sampled records and as many forged ones, 10 comparisons each: every number from 0 to 10.
     Records,
     // 2,500 pairs of sampled groups: 0, 1, 2, 6, 7.
     Alike,
-    // 40 lists of 250 calls, 2 comparisons each: every number from 0 to 9.
+    // 40 lists of 250 calls, 2 comparisons each: every number from 0 to 10.
     CallLists,
     // 200 sampled records and as many forged ones, lists of 0 to 12 places, 2 comparisons each: 0, 1, 2, 4, 8, 10.
     LentLists,

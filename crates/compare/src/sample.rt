@@ -234,8 +234,11 @@ pub fn call(g: Group, s: usize) -> Call {
 
 fn kind(g: Group, s: usize) -> Kind {
     let which = below(9, s, 81);
-    if which < 2 {
+    if which == 0 {
         return Kind::Write;
+    }
+    if which == 1 {
+        return Kind::WriteInto(below(13, s, 95));
     }
     if which < 4 {
         return Kind::Scrub;
