@@ -14,7 +14,7 @@ use Rattle.order.specs.declared.Cell.{Cell}
 use Rattle.order.specs.Order.{orderRecord}
 use Rattle.order.proofs.Cells.{lt-cases, eq-cases}
 use Rattle.order.proofs.Tabulate.{getD-tabulate}
-use Rattle.order.proofs.Listings.{cell}
+use Rattle.order.proofs.Numbers.{cell}
 use Rattle.coordinates.specs.declared.Coordinates.{Coordinates}
 use Rattle.coordinates.specs.Coordinates.{insertAt, orderFrom, inRange}
 use Rattle.coordinates.specs.Conversion.{coordinateAt, orderByCoordinates}

@@ -11,7 +11,7 @@ use lib.IntN.{ℤ, pos}
 use lib.Signed.{_≤ℤ_}
 use Rattle.order.specs.Cells.{placeOf, isOrder}
 use Rattle.order.proofs.Cells.{IsOrder, order-true, order-count, order-range, lt-cases}
-use Rattle.order.proofs.Inverse.{Stands, stands, inverseTo, length-inverse, inverse-at, inverse-order, place-past}
+use Rattle.order.proofs.Places.{Stands, stands, inverseTo, length-inverse, inverse-at, inverse-order, place-past}
 use Rattle.order.proofs.Tabulate.{length-tabulate, getD-tabulate}
 use Rattle.cost.specs.Cost.{displacement, displacements, cost}
 use Rattle.cost.proofs.Signs.{≤ℤ-trans, sub-positive}

@@ -18,7 +18,7 @@ use mathlib.Core.List.{List, [], _∷_}
 use lib.ListN.{getD}
 use borrow.Author.Tests.{eqb-true}
 use Rattle.order.specs.Cells.{placeOf, isOrder}
-use Rattle.order.proofs.Inverse.{own-place}
+use Rattle.order.proofs.Places.{own-place}
 use Rattle.order.proofs.Cells.{IsOrder, order-true, true-order}
 use Rattle.distance.specs.Distance.{opposed, exchange}
 use Rattle.distance.proofs.Counts.{order-distinct, order-same}

@@ -10,8 +10,7 @@ use lib.Seq.{getD-take}
 use Rattle.order.specs.declared.Order.{Order}
 use Rattle.order.specs.Order.{cellNumbers, listed}
 use Rattle.order.proofs.Cells.{IsOrder}
-use Rattle.order.proofs.Numbers.{place-at}
-use Rattle.order.proofs.Listings.{cell}
+use Rattle.order.proofs.Numbers.{cell, place-at}
 use Rattle.order.proofs.Records.{passed, passed-listed, passed-order}
 use Rattle.order.proofs.Tabulate.{getD-tabulate, tabulate-set}
 use Rattle.coordinates.specs.declared.Coordinates.{Coordinates}

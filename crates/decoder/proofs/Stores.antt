@@ -13,7 +13,7 @@ use Rattle.order.specs.Cells.{isOrder, tabulate}
 use Rattle.order.specs.Refusals.{numberOf}
 use Rattle.order.specs.Order.{listed, orderChecks, orderRecord}
 use Rattle.order.proofs.Tabulate.{getD-tabulate, tabulate-set}
-use Rattle.order.proofs.Listings.{cell}
+use Rattle.order.proofs.Numbers.{cell}
 use Rattle.order.proofs.Records.{passed, passed-listed, passed-order, record-back}
 use Rattle.distance.specs.Distance.{exchange}
 use Rattle.decoder.specs.Nearest.{exchangedOrder}

@@ -11,7 +11,7 @@ use lib.ListN.{length, take, drop}
 use lib.Seq.{split-at}
 use borrow.Author.Tests.{ne-eqb}
 use Rattle.order.specs.Cells.{tally, countIf, count, placeFrom, placeOf}
-use Rattle.order.proofs.Inverse.{stands}
+use Rattle.order.proofs.Places.{stands}
 use Rattle.order.proofs.Cells.{tally-eq, lt-cases, countIf-append, IsOrder, below-suc, order-count, order-past}
 
 pub tally-zero : (b : Bool) → tally b ≡ 0 → b ≡ false

@@ -8,8 +8,7 @@ pub mod Limits
 pub mod Bits
 pub mod Marks
 pub mod Check
-pub mod Inverse
-pub mod Listings
+pub mod Places
 pub mod Filling
 pub mod Records
 pub mod Pairs

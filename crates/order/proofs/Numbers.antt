@@ -11,6 +11,12 @@ use Rattle.order.specs.declared.Cell.{Cell}
 use Rattle.order.specs.declared.Order.{Order}
 use Rattle.order.specs.Order.{cellNumbers}
 
+abbrev pub cell : ℕ → Cell
+cell k = record { 0 = k }
+
+abbrev pub cellNumber : Cell → ℕ
+cellNumber c = c .0
+
 -- what owning an array of structs tells: the list is as long as the list of the elements' data
 pub length-mapped : (X Y : Type 0) (f : X → Y) (l : List X) (n : ℕ) → length (map f l) ≡ n → length l ≡ n
 length-mapped X Y f l n e = sym (length-map l f) ∙ e

@@ -15,7 +15,7 @@ use Rattle.order.proofs.Cells.{IsOrder, order-true}
 use Rattle.order.proofs.Refusals.{sized-done, sized-holds, size-in}
 use Rattle.order.proofs.Check.{order-parts}
 use Rattle.order.proofs.Padded.{padded, padded-listed, padded-clear, padded-back}
-use Rattle.order.proofs.Listings.{cell, cellNumber}
+use Rattle.order.proofs.Numbers.{cell, cellNumber}
 
 and-true : (b : Bool) → (b && true) ≡ b
 and-true true = refl

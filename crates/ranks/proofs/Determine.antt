@@ -18,11 +18,10 @@ use Rattle.order.proofs.Refusals.{told-done, sized-done, sized-holds, size-true
 use Rattle.order.proofs.Check.{Listing, listing-parts}
 use Rattle.order.proofs.Records.{passed, passed-order, record-back}
 use Rattle.order.proofs.Padded.{padded, padded-back}
-use Rattle.order.proofs.Inverse.{inverseTo}
+use Rattle.order.proofs.Places.{inverseTo}
 use Rattle.ranks.proofs.InverseArray.{inverted, inverted-listed, inverted-listing, inverted-back, inverted-order}
-use Rattle.order.proofs.Listings.{cell, cellNumber}
 use Rattle.order.proofs.Check.{sized-listing}
-use Rattle.order.proofs.Numbers.{length-front}
+use Rattle.order.proofs.Numbers.{cell, cellNumber, length-front}
 use Rattle.ranks.proofs.RankNumbers.{rank, rankNumber, length-ranks}
 
 -- ranks list each rank once where their inverse lists each cell once

@@ -12,7 +12,7 @@ use borrow.Author.Tests.{eq-eqb}
 use Rattle.order.specs.Cells.{tabulate, placeOf, isOrder, allZero, isListing}
 use Rattle.order.proofs.Cells.{IsOrder, order-true, true-order, lt-cases}
 use Rattle.order.proofs.Tabulate.{length-tabulate, getD-tabulate, tabulate-ext}
-use Rattle.order.proofs.Inverse.{inverseTo, length-inverse, inverse-at, place-past, inverse-order, order-inverse, inverse-inverse}
+use Rattle.order.proofs.Places.{inverseTo, length-inverse, inverse-at, place-past, inverse-order, order-inverse, inverse-inverse}
 use Rattle.order.proofs.Padded.{all-zero, number-at, padded}
 use Rattle.order.proofs.Check.{listing-parts}
 

@@ -14,7 +14,7 @@ use Rattle.order.specs.declared.Rank.{Rank}
 use Rattle.order.specs.Cells.{placeFrom, placeOf, tabulate}
 use Rattle.order.proofs.Cells.{IsOrder, lt-cases}
 use Rattle.order.proofs.Tabulate.{tabulate-ext, tabulate-set}
-use Rattle.order.proofs.Listings.{cell}
+use Rattle.order.proofs.Numbers.{cell}
 use Rattle.ranks.specs.Steps.{withCell}
 use Rattle.order.proofs.Sweep.{Downto, Turn, turn-by, met-low, met-high, down-none, down-more, drop-none, met-down}
 

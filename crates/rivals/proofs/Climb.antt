@@ -11,7 +11,7 @@ use lib.ListN.{length, getD}
 use borrow.Author.Tests.{eq-eqb, ne-eqb}
 use Rattle.order.specs.Cells.{count, placeFrom, isOrder}
 use Rattle.order.proofs.Cells.{order-true, order-count, lt-cases, eq-cases, tally-eq, tally-ne}
-use Rattle.order.proofs.Inverse.{Stands, stands}
+use Rattle.order.proofs.Places.{Stands, stands}
 use Rattle.group.specs.Levels.{level}
 use Rattle.writing.specs.PushUp.{singles, top, floorOver, lift, raise}
 use Rattle.group.proofs.Levels.{level-put, at-most-length}

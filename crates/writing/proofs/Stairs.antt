@@ -13,7 +13,7 @@ use Rattle.order.specs.Refusals.{numberOf}
 use Rattle.order.specs.Cells.{tabulate, placeOf, isOrder}
 use Rattle.order.proofs.Cells.{IsOrder, order-true, order-range}
 use Rattle.order.proofs.Tabulate.{length-tabulate, getD-tabulate}
-use Rattle.order.proofs.Inverse.{own-place}
+use Rattle.order.proofs.Places.{own-place}
 use Rattle.group.specs.declared.Group.{Group}
 use Rattle.group.specs.Levels.{level, AtMost, empty, more}
 use Rattle.group.proofs.Levels.{at-most-refl}

@@ -5,8 +5,7 @@ use Prim.Native.Nat.{_-_}
 use native.Mathlib.Omega.{arith}
 use mathlib.Core.Path.{refl}
 use lib.ListN.{getD}
-use Rattle.order.proofs.Numbers.{length-mapped}
-use Rattle.order.proofs.Listings.{cell}
+use Rattle.order.proofs.Numbers.{cell, length-mapped}
 use Rattle.order.proofs.Sweep.{Turn}
 use Rattle.ranks.specs.Ranks.{rankNumbers, orderByRank}
 use Rattle.ranks.proofs.RankNumbers.{length-ranks, rank-at}

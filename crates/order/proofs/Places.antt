@@ -1,4 +1,4 @@
--- The inverse of an order: over lists of numbers.
+-- Places in a list, and the inverse of an order: the place of each cell.
 -- Assumes nothing.
 use Prim.Native.Nat.{ℕ, zero, suc, _+_, _-_, _≤_, _<_}
 use native.Mathlib.Nat.{not-suc-le-zero, le-of-suc-le-suc}
