@@ -66,7 +66,7 @@ module _ (p : Progress) (bs out : List ℕ) (s : Stands p) (few : 8 * p .positio
 
 -- ---- a run in pieces
 
-records-length : (bs : List ℕ) → length (records bs) ≡ length bs / 8
+pub records-length : (bs : List ℕ) → length (records bs) ≡ length bs / 8
 unfolding records
 records-length bs = length-tabulate (length bs / 8) (recordAt bs)
 

@@ -1,6 +1,7 @@
 // Runs `rmcalls` on each file of data/, and writes the file's name before its text: every refusal that the program can give, leftover bytes, no
 // bytes, 4,096 (one piece of a run, and nothing after it), 8,205 (two, a record and leftover bytes), and more than 65,536. The expected text is not
 // the engine's own: scripts/reference reckons it by document 01's definitions.
+use console::Poured;
 use libc::STDOUT_FILENO;
 
 fn main() {
@@ -20,6 +21,10 @@ fn show(path: &[u8]) {
         os::fail(path);
         return;
     }
-    console::pour(file, STDOUT_FILENO);
+    let poured = console::pour(file, STDOUT_FILENO);
+    match poured {
+        Poured::Whole => {},
+        _ => os::fail(path),
+    }
     libc::close(file);
 }
