@@ -11,4 +11,4 @@ returns-2 : tie.Need-returns-2
 returns-2 c = rw (c .before .before .answer2 .given .1, c .zero-pushes .ensures)
 
 pub from-read-spec : {M : Type 1} → statement M
-from-read-spec = tie.close (tie.spec (search needs) (search needs) (search needs) (search needs) returns returns-2)
+from-read-spec = tie.close (tie.spec (λ c. search needs) (λ c κs. search needs) (λ c. search needs) (λ c κs. search needs) returns returns-2)

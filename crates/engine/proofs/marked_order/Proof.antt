@@ -31,4 +31,4 @@ returns-3 c =
     d .before .before .sense .ensures ∙ marked-done _ (passed d) (not-false _ (c .if1 .left))
 
 pub marked-order-spec : {M : Type 1} → statement M
-marked-order-spec = tie.close (tie.spec (search needs) (search needs) (search needs) returns (search needs) returns-2 returns-3)
+marked-order-spec = tie.close (tie.spec (λ c κs. search needs) (λ c. search needs) (λ c. search needs) returns (λ c κs. search needs) returns-2 returns-3)

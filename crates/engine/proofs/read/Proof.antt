@@ -23,4 +23,4 @@ returns-2 c =
     c .as-read .ensures ∙ c .before .decode .ensures ∙ ap decodeOf (marked-record _ (a .result) (a .ensures) passed) ∙ read-decoded _ passed
 
 pub read-spec : {M : Type 1} → statement M
-read-spec = tie.close (tie.spec (search needs) (search needs) returns (search needs) (search needs) (search needs) returns-2)
+read-spec = tie.close (tie.spec (λ c κs. search needs) (λ c. search needs) returns (λ c. search needs) (λ c κs. search needs) (λ c κs. search needs) returns-2)

@@ -14,4 +14,4 @@ returns-2 : tie.Need-returns-2
 returns-2 c = rw (c .before .before .enum-told .given .1)
 
 pub rewritten-spec : {M : Type 1} → statement M
-rewritten-spec = tie.close (tie.spec (search needs) (search needs) (search needs) returns returns-2)
+rewritten-spec = tie.close (tie.spec (λ c. search needs) (λ c. search needs) (λ c κs. search needs) returns returns-2)

@@ -8,4 +8,4 @@ returns : tie.Need-returns
 returns c = rw (c .zero-pushes .ensures)
 
 pub unchanged-spec : {M : Type 1} → statement M
-unchanged-spec = tie.close (tie.spec (search needs) returns)
+unchanged-spec = tie.close (tie.spec (λ c κs. search needs) returns)

@@ -8,4 +8,4 @@ returns : tie.Need-returns
 returns c = rw (c .zero-pushes .ensures)
 
 pub unwritten-spec : {M : Type 1} → statement M
-unwritten-spec = tie.close (tie.spec (search needs) returns)
+unwritten-spec = tie.close (tie.spec (λ c κs. search needs) returns)
