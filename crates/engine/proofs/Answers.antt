@@ -26,13 +26,13 @@ use Rattle.code.specs.Symbols.{wordOf, Reading, noReading, readingAt, codewordC
 use Rattle.code.proofs.Codewords.{symbol-order}
 use Rattle.group.specs.declared.Group.{Group}
 use Rattle.group.specs.Record.{groupChecks}
-use Rattle.writing.specs.Calls.{writeChecks, pushChecks, pushed, unpushed, writeOf}
+use Rattle.writing.specs.WriteAnswer.{writeChecks, pushChecks, pushed, unpushed, writeOf}
 use Rattle.sensing.specs.Sense.{senseOf}
 use Rattle.group.proofs.Checks.{checked-size}
 use Rattle.sensing.proofs.Sensed.{sensed-order}
 use Rattle.engine.specs.declared.ReadAnswer.{ReadAnswer}
 use Rattle.engine.specs.declared.ReadAnswer.the-variants as read
-use Rattle.engine.specs.Calls.{sensedOrder, markedChecks, markedOf, readChecks, readingOf, toldRead, readOf, storeChecks, storeOf, alikeOf}
+use Rattle.engine.specs.ReadStore.{sensedOrder, markedChecks, markedOf, readChecks, readingOf, toldRead, readOf, storeChecks, storeOf, alikeOf}
 
 -- checks that give the same number, and the same result
 same-answer : {A : Type 0} (a b : List (Bool × Refusal)) (x y zeros : A) → numberOf a ≡ numberOf b → x ≡ y → answer a x zeros ≡ answer b y zeros

@@ -5,7 +5,7 @@ use mathlib.Core.Path.{_≡_, refl}
 use mathlib.Core.Bool.{true}
 use Rattle.order.specs.Refusals.{checkRow, inRow}
 use Rattle.group.specs.declared.Group.{Group}
-use Rattle.engine.specs.Calls.{readChecks, storeChecks}
+use Rattle.engine.specs.ReadStore.{readChecks, storeChecks}
 use Rattle.engine.specs.Scrub.{scrubChecks}
 
 pub read-in-row : (g : Group) → inRow (readChecks g) checkRow ≡ true

@@ -36,14 +36,14 @@ use Rattle.code.proofs.Codewords.{codeword-word, number-of-codeword}
 use Rattle.code.proofs.Reading.{readingTold, decode-part, corrected-word}
 use Rattle.group.specs.declared.Group.{Group}
 use Rattle.group.specs.Record.{groupChecks}
-use Rattle.writing.specs.Calls.{Program, pushed, unpushed, writeOf}
+use Rattle.writing.specs.WriteAnswer.{Program, pushed, unpushed, writeOf}
 use Rattle.group.proofs.Checks.{checked-size}
 use Rattle.writing.proofs.Writes.{push-group, push-again}
 use Rattle.sensing.proofs.Sensed.{sensed-order}
 use Rattle.group.proofs.Groups.{IsGroup}
 use Rattle.engine.specs.declared.ReadAnswer.{ReadAnswer}
 use Rattle.engine.specs.declared.ReadAnswer.the-variants as read
-use Rattle.engine.specs.Calls.{sensedOrder, placeRead, markedChecks, readChecks, readingOf, toldRead, readOf, storeOf}
+use Rattle.engine.specs.ReadStore.{sensedOrder, placeRead, markedChecks, readChecks, readingOf, toldRead, readOf, storeOf}
 use Rattle.engine.specs.Scrub.{Step, quiet, programmedStep, wordFound, scrubChecks, scrubOf, afterRead}
 use Rattle.engine.proofs.Answers.{mark-held, read-number, read-done, read-decoded, sensed-recorded, write-listed, word-order, store-written}
 use Rattle.engine.proofs.Holds.{store-accepted, store-holds, store-reads}

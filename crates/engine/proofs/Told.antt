@@ -14,7 +14,7 @@ use Rattle.engine.specs.declared.AlikeAnswer.the-variants as alike
 use Rattle.engine.specs.declared.Judged.{Judged}
 use Rattle.engine.specs.declared.Judged.the-variants.{Nothing, By}
 use Rattle.engine.specs.declared.Applied.{Applied}
-use Rattle.engine.specs.Calls.{toldRead, toldAlike}
+use Rattle.engine.specs.ReadStore.{toldRead, toldAlike}
 use Rattle.engine.specs.Scrub.{Step, judged, toldApplied}
 
 pub told-read : (a b : ReadAnswer) → toldRead a ≡ toldRead b → a ≡ b

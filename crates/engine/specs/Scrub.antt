@@ -20,11 +20,11 @@ use Rattle.code.specs.declared.Verdict.{Verdict}
 use Rattle.code.specs.Symbols.{Reading}
 use Rattle.group.specs.declared.Group.{Group}
 use Rattle.writing.specs.declared.Push.{Push}
-use Rattle.writing.specs.Calls.{Program, pushArray, pushChecks, pushed}
+use Rattle.writing.specs.WriteAnswer.{Program, pushArray, pushChecks, pushed}
 use Rattle.engine.specs.declared.Judged.{Judged}
 use Rattle.engine.specs.declared.Judged.the-variants.{Nothing, By}
 use Rattle.engine.specs.declared.Applied.{Applied}
-use Rattle.engine.specs.Calls.{sensedOrder, placeRead, readChecks, readingOf}
+use Rattle.engine.specs.ReadStore.{sensedOrder, placeRead, readChecks, readingOf}
 
 -- ---- answers
 

@@ -15,8 +15,8 @@ ghost use mathlib.Core.Option.{some};
 ghost use Rattle.order.specs.Refusals.{outcomeNumber, ifDone};
 ghost use Rattle.order.specs.Order.{toldOrder};
 ghost use Rattle.code.specs.Symbols.{toldDecode};
-ghost use Rattle.writing.specs.Calls.{toldWritten};
-ghost use Rattle.engine.specs.Calls.{markedOf, toldRead, readOf, storeOf, toldAlike, alikeOf};
+ghost use Rattle.writing.specs.WriteAnswer.{toldWritten};
+ghost use Rattle.engine.specs.ReadStore.{markedOf, toldRead, readOf, storeOf, toldAlike, alikeOf};
 ghost use Rattle.engine.specs.Scrub.{toldApplied, quiet, programmedStep, afterRead, scrubOf};
 
 pub enum ReadAnswer {

@@ -15,7 +15,7 @@ use Rattle.order.proofs.Cells.{both}
 use Rattle.order.proofs.Refusals.{all-held, check-held, sized-done, sized-holds}
 use Rattle.group.specs.declared.Group.{Group}
 use Rattle.group.specs.Record.{isRow, groupChecks, hasRows}
-use Rattle.group.specs.Calls.{cellChecks}
+use Rattle.group.specs.Changes.{cellChecks}
 
 -- ---- what a group tells
 

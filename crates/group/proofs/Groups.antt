@@ -16,7 +16,7 @@ use Rattle.order.proofs.Refusals.{check-held, size-true, all-held}
 use Rattle.group.specs.declared.Group.{Group}
 use Rattle.group.specs.Levels.{level, AtMost}
 use Rattle.group.specs.Record.{isRow, groupChecks, opened, noGroup, changed}
-use Rattle.group.specs.Calls.{cellChecks, openOf, leakOf, wearOf, eraseOf}
+use Rattle.group.specs.Changes.{cellChecks, openOf, leakOf, wearOf, eraseOf}
 use Rattle.group.proofs.Levels.{at-most-refl, at-most-length, put-below, leaked-below}
 use Rattle.group.proofs.Rows.{row-below, zeros-row, full-row}
 use Rattle.group.proofs.Checks.{rules-held, rules-hold, checked-levels}

@@ -1,3 +1,3 @@
 pub mod Levels
 pub mod Record
-pub mod Calls
+pub mod Changes

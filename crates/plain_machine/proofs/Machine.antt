@@ -26,18 +26,18 @@ use Rattle.group.specs.declared.Group.{Group}
 use Rattle.group.specs.Levels.{put, AtMost, rises, leaked}
 use Rattle.writing.specs.PushUp.{singles, Shows}
 use Rattle.group.specs.Record.{groupChecks, withLevels, withCaps, erased}
-use Rattle.writing.specs.Calls.{Program, writeChecks, pushArray, raised, fits, pushChecks, pushed, unpushed, writeOf}
-use Rattle.group.specs.Calls.{cellChecks, wearChecks, leakOf, wearOf, eraseOf}
+use Rattle.writing.specs.WriteAnswer.{Program, writeChecks, pushArray, raised, fits, pushChecks, pushed, unpushed, writeOf}
+use Rattle.group.specs.Changes.{cellChecks, wearChecks, leakOf, wearOf, eraseOf}
 use Rattle.group.proofs.Levels.{at-most-refl, at-most-true, rises-down, leaked-below}
 use Rattle.group.proofs.Groups.{by-number, IsGroup, leak-group, wear-group, erase-group}
 use Rattle.writing.proofs.Writes.{push-held, pushes-few, write-group, raised-shows}
-use Rattle.push_list.specs.Calls.{intoChecks, writeIntoOf}
+use Rattle.push_list.specs.LentWrite.{intoChecks, writeIntoOf}
 use Rattle.push_list.proofs.Written.{into-group}
 use Rattle.sensing.proofs.Sensed.{sensed-order}
 use Rattle.plain_machine.specs.declared.Kind.{Kind}
 use Rattle.plain_machine.specs.declared.Kind.the-variants.{Write, WriteInto, Store, Scrub, Leak, Wear, Erase, Read}
 use Rattle.plain_machine.specs.declared.Call.{Call}
-use Rattle.engine.specs.Calls.{sensedOrder, placeRead, readChecks, readingOf, readOf, storeChecks, storeOf}
+use Rattle.engine.specs.ReadStore.{sensedOrder, placeRead, readChecks, readingOf, readOf, storeChecks, storeOf}
 use Rattle.engine.specs.Scrub.{Step, quiet, programmedStep, wordFound, scrubOf, afterRead}
 use Rattle.engine.proofs.Holds.{store-group}
 use Rattle.engine.proofs.Scrubs.{scrub-group}

@@ -20,10 +20,10 @@ use Rattle.code.specs.Words.{K}
 use Rattle.code.specs.Symbols.{wordOf}
 use Rattle.group.specs.declared.Group.{Group}
 use Rattle.group.specs.Record.{groupChecks}
-use Rattle.group.specs.Calls.{cellChecks, wearChecks, leakOf, wearOf, eraseOf}
-use Rattle.writing.specs.Calls.{Program, pushChecks, writeOf}
-use Rattle.push_list.specs.Calls.{writeIntoOf}
-use Rattle.engine.specs.Calls.{readChecks, readOf, storeOf}
+use Rattle.group.specs.Changes.{cellChecks, wearChecks, leakOf, wearOf, eraseOf}
+use Rattle.writing.specs.WriteAnswer.{Program, pushChecks, writeOf}
+use Rattle.push_list.specs.LentWrite.{writeIntoOf}
+use Rattle.engine.specs.ReadStore.{readChecks, readOf, storeOf}
 use Rattle.engine.specs.Scrub.{Step, quiet, programmedStep, afterRead, wordFound, scrubOf}
 use Rattle.plain_machine.specs.declared.Kind.{Kind}
 use Rattle.plain_machine.specs.declared.Kind.the-variants.{Write, WriteInto, Store, Scrub, Leak, Wear, Erase, Read}

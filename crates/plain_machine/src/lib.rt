@@ -10,8 +10,8 @@ use order::Order;
 use order::Outcome;
 use writing::Written;
 ghost use mathlib.Core.Path.{_≡_};
-ghost use Rattle.group.specs.Calls.{toldChanged};
-ghost use Rattle.writing.specs.Calls.{toldWritten};
+ghost use Rattle.group.specs.Changes.{toldChanged};
+ghost use Rattle.writing.specs.WriteAnswer.{toldWritten};
 ghost use Rattle.engine.specs.Scrub.{toldApplied};
 ghost use Rattle.plain_machine.specs.Machine.{afterProgram, afterChange, applyOf};
 

@@ -6,7 +6,7 @@ use mathlib.Core.List.{List, [], _∷_}
 use native.Mathlib.Nat.{not-suc-le-zero, le-of-suc-le-suc}
 use lib.ListN.{length, getD, set}
 use Rattle.writing.specs.declared.Push.{Push}
-use Rattle.push_list.specs.Calls.{filled}
+use Rattle.push_list.specs.LentWrite.{filled}
 
 -- push i stored at place i of a list with i pushes in front gives the list with one more
 pub filled-next : (ps list : List Push) (i : ℕ) (d : Push) → i < length ps → i < length list → set (filled i ps list) i (getD ps i d) ≡ filled (suc i) ps list

@@ -18,10 +18,10 @@ use Rattle.order.proofs.Check.{order-parts}
 use Rattle.group.specs.declared.Group.{Group}
 use Rattle.writing.specs.declared.Push.{Push}
 use Rattle.group.specs.Record.{groupChecks}
-use Rattle.writing.specs.Calls.{Program, writeOf}
+use Rattle.writing.specs.WriteAnswer.{Program, writeOf}
 use Rattle.group.proofs.Checks.{checked-size}
 use Rattle.writing.proofs.Writes.{pushes-few}
-use Rattle.push_list.specs.Calls.{intoChecks, writeIntoOf, filled, listAfter}
+use Rattle.push_list.specs.LentWrite.{intoChecks, writeIntoOf, filled, listAfter}
 
 -- a number is 0, or another
 pub either : {P : Type 0} (n : ℕ) → (n ≡ 0 → P) → ((k : ℕ) → n ≡ suc k → P) → P

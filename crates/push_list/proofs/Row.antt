@@ -6,7 +6,7 @@ use mathlib.Core.Bool.{true}
 use Rattle.order.specs.declared.Order.{Order}
 use Rattle.order.specs.Refusals.{checkRow, inRow}
 use Rattle.group.specs.declared.Group.{Group}
-use Rattle.push_list.specs.Calls.{intoChecks}
+use Rattle.push_list.specs.LentWrite.{intoChecks}
 
 pub into-in-row : (g : Group) (o : Order) (room : ℕ) → inRow (intoChecks g o room) checkRow ≡ true
 into-in-row g o room = refl

@@ -4,7 +4,7 @@ use mathlib.Core.Path.{_≡_, ap}
 use Rattle.order.specs.Refusals.{Told}
 use Rattle.order.proofs.Refusals.{outcome-by-number}
 use Rattle.push_list.specs.declared.WrittenInto.{WrittenInto}
-use Rattle.push_list.specs.Calls.{Carried, toldInto}
+use Rattle.push_list.specs.LentWrite.{Carried, toldInto}
 
 pub told-into : (a b : WrittenInto) → toldInto a ≡ toldInto b → a ≡ b
 told-into a b e =

@@ -15,10 +15,10 @@ use Rattle.group.specs.declared.Group.{Group}
 use Rattle.writing.specs.declared.Push.{Push}
 use Rattle.group.specs.Record.{groupChecks}
 use Rattle.writing.specs.PushUp.{singles, pushes}
-use Rattle.writing.specs.Calls.{Program, pushed, unpushed, writeOf}
+use Rattle.writing.specs.WriteAnswer.{Program, pushed, unpushed, writeOf}
 use Rattle.group.proofs.Groups.{IsGroup}
 use Rattle.writing.proofs.Writes.{group-pushed}
-use Rattle.push_list.specs.Calls.{intoChecks, writeIntoOf, filled, listAfter}
+use Rattle.push_list.specs.LentWrite.{intoChecks, writeIntoOf, filled, listAfter}
 use Rattle.push_list.proofs.Plans.{either, filledBy, plan-list, room-written}
 
 module _ (g : Group) (o : Order) where

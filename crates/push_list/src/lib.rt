@@ -11,8 +11,8 @@ use writing::Written;
 ghost use mathlib.Core.Path.{_≡_};
 ghost use Prim.Native.Nat.{_≤_};
 ghost use lib.ListN.{length};
-ghost use Rattle.writing.specs.Calls.{toldWritten};
-ghost use Rattle.push_list.specs.Calls.{writeIntoOf, carriedOf, toldInto, filled, listAfter};
+ghost use Rattle.writing.specs.WriteAnswer.{toldWritten};
+ghost use Rattle.push_list.specs.LentWrite.{writeIntoOf, carriedOf, toldInto, filled, listAfter};
 ghost use Rattle.push_list.specs.Steps.{toldPlan};
 
 // The answer of a write into a lent list: the pushes are the first count places of the list, from low to high.

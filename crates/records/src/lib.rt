@@ -8,7 +8,7 @@ use plain_machine::Call;
 use plain_machine::Kind;
 ghost use mathlib.Core.Path.{_≡_};
 ghost use Rattle.order.specs.Refusals.{outcomeNumber};
-ghost use Rattle.group.specs.Calls.{openOf};
+ghost use Rattle.group.specs.Changes.{openOf};
 ghost use Rattle.plain_machine.specs.Machine.{applyOf};
 ghost use Rattle.records.specs.Records.{usesCell, unusedZero, requestOf, toldAnswered, groupAlone, callOf, afterApply, afterOpen, stepOf};
 

@@ -18,8 +18,8 @@ use Rattle.group.specs.declared.Group.{Group}
 use Rattle.group.specs.Levels.{AtMost, rises}
 use Rattle.group.specs.Record.{opened, noGroup}
 use Rattle.writing.specs.PushUp.{singles}
-use Rattle.writing.specs.Calls.{raised, fits, pushChecks, pushed}
-use Rattle.group.specs.Calls.{openOf}
+use Rattle.writing.specs.WriteAnswer.{raised, fits, pushChecks, pushed}
+use Rattle.group.specs.Changes.{openOf}
 use Rattle.group.proofs.Levels.{at-most-refl, at-most-trans, sum, sum-mono, rises-up, leaked-mono, leaked-loss}
 use Rattle.writing.proofs.Raise.{raise-above, raise-least}
 use Rattle.group.proofs.Groups.{IsGroup, open-group}

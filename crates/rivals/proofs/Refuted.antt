@@ -16,8 +16,8 @@ use Rattle.group.specs.Levels.{level, put, AtMost, atMost, rises}
 use Rattle.writing.specs.PushUp.{singles, top, floorOver, Reach, Shows, lift, raise}
 use Rattle.group.specs.declared.Group.{Group}
 use Rattle.group.specs.Record.{allAtMost, isRow, opened, withLevels}
-use Rattle.writing.specs.Calls.{raised, fits, pushed, writeOf}
-use Rattle.group.specs.Calls.{wearOf}
+use Rattle.writing.specs.WriteAnswer.{raised, fits, pushed, writeOf}
+use Rattle.group.specs.Changes.{wearOf}
 use Rattle.group.proofs.Levels.{at-most-true, at-most-level}
 use Rattle.plain_machine.specs.declared.Kind.{Kind}
 use Rattle.plain_machine.specs.declared.Kind.the-variants.{Write, WriteInto, Store, Scrub, Leak, Wear, Erase, Read}

@@ -15,9 +15,9 @@ use Rattle.group.specs.Levels.{level, put, atMost, rises}
 use Rattle.group.specs.Record.{allAtMost, isRow}
 use Rattle.writing.specs.PushUp.{singles, top, floorOver, lift, raise, pushOf, rankPushes, pushes}
 use Rattle.sensing.specs.Sense.{above, insert, sorted, sensed}
-use Rattle.writing.specs.Calls.{raised, fits, pushed, writeOf}
+use Rattle.writing.specs.WriteAnswer.{raised, fits, pushed, writeOf}
 use Rattle.sensing.specs.Sense.{senseOf}
-use Rattle.engine.specs.Calls.{readOf, storeOf}
+use Rattle.engine.specs.ReadStore.{readOf, storeOf}
 use Rattle.rivals.specs.Starred.{EachRight, starred}
 
 pub starred-hold : EachRight starred

@@ -33,8 +33,8 @@ use Rattle.group.specs.declared.Group.{Group}
 use Rattle.group.specs.Levels.{level, put, atMost}
 use Rattle.writing.specs.PushUp.{singles, top, floorOver, lift, raise}
 use Rattle.group.specs.Record.{allAtMost, isRow, groupChecks, opened}
-use Rattle.writing.specs.Calls.{raised, fits, pushChecks, writeOf}
-use Rattle.group.specs.Calls.{wearOf}
+use Rattle.writing.specs.WriteAnswer.{raised, fits, pushChecks, writeOf}
+use Rattle.group.specs.Changes.{wearOf}
 use Rattle.writing.proofs.Raise.{Each}
 use Rattle.writing.proofs.Stairs.{stairs, zeros-under, length-stairs, stairs-fit}
 use Rattle.engine.proofs.Scrubs.{store-scrubs}

@@ -37,9 +37,9 @@ use Rattle.code.specs.declared.Verdict.the-variants.{PutRight}
 use Rattle.code.specs.Symbols.{Reading, codewordOf, decodeOf}
 use Rattle.group.specs.declared.Group.{Group}
 use Rattle.writing.specs.declared.Push.{Push}
-use Rattle.writing.specs.Calls.{Program, writeOf}
+use Rattle.writing.specs.WriteAnswer.{Program, writeOf}
 use Rattle.sensing.specs.Sense.{senseOf}
-use Rattle.engine.specs.Calls.{readOf, storeOf}
+use Rattle.engine.specs.ReadStore.{readOf, storeOf}
 
 -- ---- records and answers
 

@@ -12,12 +12,12 @@ use Rattle.order.specs.declared.Cell.{Cell}
 use Rattle.order.specs.Refusals.{Told, ifDone, answer, numberOf}
 use Rattle.group.specs.declared.Group.{Group}
 use Rattle.group.specs.Record.{noGroup}
-use Rattle.group.specs.Calls.{openOf, leakOf, wearOf, eraseOf}
+use Rattle.group.specs.Changes.{openOf, leakOf, wearOf, eraseOf}
 use Rattle.group.proofs.Groups.{IsGroup, open-group}
 use Rattle.plain_machine.specs.declared.Kind.{Kind}
 use Rattle.plain_machine.specs.declared.Kind.the-variants.{Store, Scrub, Leak, Wear, Erase, Read}
 use Rattle.plain_machine.specs.declared.Call.{Call}
-use Rattle.engine.specs.Calls.{storeOf}
+use Rattle.engine.specs.ReadStore.{storeOf}
 use Rattle.engine.specs.Scrub.{scrubOf}
 use Rattle.plain_machine.specs.Machine.{applyOf}
 use Rattle.plain_machine.proofs.Machine.{apply-group}

@@ -17,7 +17,7 @@ use Rattle.group.specs.declared.Group.{Group}
 use Rattle.group.specs.Record.{programmed}
 use Rattle.group.proofs.Checks.{checked-size}
 use Rattle.group.proofs.Groups.{IsGroup}
-use Rattle.writing.specs.Calls.{raised, pushed, writeOf}
+use Rattle.writing.specs.WriteAnswer.{raised, pushed, writeOf}
 use Rattle.writing.proofs.Writes.{write-accepted, write-group, raised-shows}
 use Rattle.sensing.specs.Sense.{sensed, senseOf}
 use Rattle.sensing.proofs.Sensed.{sensed-back}

@@ -18,7 +18,7 @@ use Rattle.group.specs.declared.Group.{Group}
 use Rattle.group.specs.Levels.{level, AtMost, empty, more}
 use Rattle.group.proofs.Levels.{at-most-refl}
 use Rattle.writing.specs.PushUp.{singles, Shows}
-use Rattle.writing.specs.Calls.{pushChecks}
+use Rattle.writing.specs.WriteAnswer.{pushChecks}
 use Rattle.writing.proofs.Orders.{Falling, falling-shows}
 use Rattle.writing.proofs.Writes.{push-holds, fits-where}
 

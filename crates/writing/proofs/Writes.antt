@@ -22,7 +22,7 @@ use Rattle.group.proofs.Levels.{at-most-refl, at-most-trans, at-most-length, at
 use Rattle.group.proofs.Checks.{checked-size, checked-levels, checked-caps}
 use Rattle.group.proofs.Groups.{IsGroup, told-value, told-accepted, group-with}
 use Rattle.writing.specs.PushUp.{singles, Shows}
-use Rattle.writing.specs.Calls.{Program, raised, fits, pushChecks, pushed, unpushed, writeOf}
+use Rattle.writing.specs.WriteAnswer.{Program, raised, fits, pushChecks, pushed, unpushed, writeOf}
 use Rattle.writing.proofs.Raise.{raise-least}
 use Rattle.writing.proofs.Raising.{few-pushes}
 use Rattle.writing.proofs.Orders.{order-shows}

@@ -1,3 +1,3 @@
 pub mod PushUp
-pub mod Calls
+pub mod WriteAnswer
 pub mod Steps

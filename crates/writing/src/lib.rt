@@ -15,7 +15,7 @@ ghost use Rattle.order.specs.Cells.{isOrder};
 ghost use Rattle.order.specs.Order.{listed};
 ghost use Rattle.group.specs.Levels.{atMost};
 ghost use Rattle.group.specs.Record.{allAtMost};
-ghost use Rattle.writing.specs.Calls.{pushArray, toldWritten, writeOf, unpushed};
+ghost use Rattle.writing.specs.WriteAnswer.{pushArray, toldWritten, writeOf, unpushed};
 ghost use Rattle.writing.specs.Steps.{pushUpTo};
 
 // A cell that rises, and the level that it reaches.

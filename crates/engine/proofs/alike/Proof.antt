@@ -5,7 +5,7 @@ use borrow.Author.Tests.{eq-eqb, ne-eqb}
 use mathlib.Core.Path.{_≡_, _∙_}
 use mathlib.Core.Bool.{_&&_}
 use lib.Dec.{eqb}
-use Rattle.engine.specs.Calls.{alikeOf}
+use Rattle.engine.specs.ReadStore.{alikeOf}
 use Rattle.engine.proofs.Answers.{first-refused, second-refused, both-read}
 use Rattle.engine.proofs.alike.Statement.{statement}
 use Rattle.engine.proofs.alike.Tie as tie

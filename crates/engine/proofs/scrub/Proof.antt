@@ -7,7 +7,7 @@ use Rattle.order.specs.Order.{orderRecord}
 use Rattle.order.specs.Refusals.{outcomeNumber, numberOf, Told}
 use Rattle.order.proofs.Refusals.{accepted}
 use Rattle.code.specs.Symbols.{Reading, toldCorrected, correctedOf}
-use Rattle.engine.specs.Calls.{sensedOrder, markedChecks}
+use Rattle.engine.specs.ReadStore.{sensedOrder, markedChecks}
 use Rattle.engine.proofs.Answers.{marked-number, marked-record, read-refused}
 use Rattle.engine.proofs.Scrubs.{scrub-refused, scrub-lost, scrub-found}
 use Rattle.engine.proofs.scrub.Statement.{statement}

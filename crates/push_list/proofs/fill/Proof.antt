@@ -45,7 +45,7 @@ use denote.Triple.Spec.{Meets, tripleOf}
 use denote.Triple.Table.{entered}
 use denote.Triple.Walked.{says, needs, Stays, gave-slice, stay-dropped, walkOf, goes-gave-slice, goes-dropped, Walks, ends-at, walked, walk-meets}
 use denote.Exit.{yes}
-use Rattle.push_list.specs.Calls.{filled}
+use Rattle.push_list.specs.LentWrite.{filled}
 use Rattle.writing.specs.declared.Push.{Push}
 use Rattle.push_list.proofs.Arrays.{slot-apart, slot-whole}
 use Rattle.push_list.proofs.Filled.{filled-next, length-filled}

@@ -12,7 +12,7 @@ use Rattle.order.specs.Refusals.{numberOf}
 use Rattle.order.proofs.Refusals.{accepted, passed-on, told-refused, check-fails, outcome-first, later-decide}
 use Rattle.group.specs.Record.{groupChecks}
 use Rattle.group.proofs.Checks.{checked-size}
-use Rattle.push_list.specs.Calls.{writeIntoOf}
+use Rattle.push_list.specs.LentWrite.{writeIntoOf}
 use Rattle.push_list.proofs.Plans.{room-written}
 use Rattle.push_list.proofs.write_with_room.Statement.{statement}
 use Rattle.push_list.proofs.write_with_room.Tie as tie

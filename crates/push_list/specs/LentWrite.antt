@@ -20,7 +20,7 @@ use Rattle.order.specs.Order.{listed, isOrderOf}
 use Rattle.group.specs.declared.Group.{Group}
 use Rattle.writing.specs.declared.Push.{Push}
 use Rattle.group.specs.Record.{groupChecks}
-use Rattle.writing.specs.Calls.{Program, pushChecks, pushed, unpushed}
+use Rattle.writing.specs.WriteAnswer.{Program, pushChecks, pushed, unpushed}
 use Rattle.push_list.specs.declared.WrittenInto.{WrittenInto}
 
 -- ---- the answer
