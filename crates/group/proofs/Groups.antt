@@ -18,7 +18,7 @@ use Rattle.group.specs.Levels.{level, AtMost}
 use Rattle.group.specs.Record.{isRow, groupChecks, opened, noGroup, changed}
 use Rattle.group.specs.Changes.{cellChecks, openOf, leakOf, wearOf, eraseOf}
 use Rattle.group.proofs.Levels.{at-most-refl, at-most-length, put-below, leaked-below}
-use Rattle.group.proofs.Rows.{row-below, zeros-row, full-row}
+use Rattle.group.proofs.LevelRows.{row-below, zeros-row, full-row}
 use Rattle.group.proofs.Checks.{rules-held, rules-hold, checked-levels}
 
 -- a record that passes the checks, with rows of twelve

@@ -1,5 +1,5 @@
 pub mod Levels
-pub mod Rows
+pub mod LevelRows
 pub mod Checks
 pub mod Groups
 pub mod Told

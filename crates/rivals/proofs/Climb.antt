@@ -15,7 +15,7 @@ use Rattle.order.proofs.Places.{Stands, stands}
 use Rattle.group.specs.Levels.{level}
 use Rattle.writing.specs.PushUp.{singles, top, floorOver, lift, raise}
 use Rattle.group.proofs.Levels.{level-put, at-most-length}
-use Rattle.writing.proofs.Raise.{raise-above}
+use Rattle.writing.proofs.Minimal.{raise-above}
 use Rattle.writing.proofs.Orders.{CellsOf, cells-tail, first-low, first-high, first-new, order-shows, Falling, shows-falling}
 
 -- ---- places

@@ -22,7 +22,7 @@ use Rattle.cost.proofs.Costs.{cost-largest}
 use Rattle.group.specs.Levels.{level}
 use Rattle.writing.specs.PushUp.{singles, top}
 use Rattle.group.proofs.Levels.{at-most-level}
-use Rattle.writing.proofs.Raise.{raise-above}
+use Rattle.writing.proofs.Minimal.{raise-above}
 use Rattle.writing.proofs.Orders.{CellsOf, order-cells}
 use Rattle.writing.proofs.Stairs.{stairs, stairs-at}
 use Rattle.rivals.specs.Rise.{topLevel, written, Staircase}

@@ -21,7 +21,7 @@ use Rattle.writing.specs.PushUp.{singles}
 use Rattle.writing.specs.WriteAnswer.{raised, fits, pushChecks, pushed}
 use Rattle.group.specs.Changes.{openOf}
 use Rattle.group.proofs.Levels.{at-most-refl, at-most-trans, sum, sum-mono, rises-up, leaked-mono, leaked-loss}
-use Rattle.writing.proofs.Raise.{raise-above, raise-least}
+use Rattle.writing.proofs.Minimal.{raise-above, raise-least}
 use Rattle.group.proofs.Groups.{IsGroup, open-group}
 use Rattle.writing.proofs.Writes.{push-holds, fits-where}
 use Rattle.plain_machine.specs.declared.Kind.{Kind}

@@ -35,7 +35,7 @@ use Rattle.writing.specs.PushUp.{singles, top, floorOver, lift, raise}
 use Rattle.group.specs.Record.{allAtMost, isRow, groupChecks, opened}
 use Rattle.writing.specs.WriteAnswer.{raised, fits, pushChecks, writeOf}
 use Rattle.group.specs.Changes.{wearOf}
-use Rattle.writing.proofs.Raise.{Each}
+use Rattle.writing.proofs.Minimal.{Each}
 use Rattle.writing.proofs.Stairs.{stairs, zeros-under, length-stairs, stairs-fit}
 use Rattle.engine.proofs.Scrubs.{store-scrubs}
 use Rattle.plain_machine.specs.declared.Kind.{Kind}

@@ -24,7 +24,7 @@ use Rattle.group.specs.declared.Group.{Group}
 use Rattle.group.specs.Levels.{AtMost}
 use Rattle.group.specs.Record.{groupChecks, opened, programmed}
 use Rattle.writing.specs.WriteAnswer.{raised, pushed, writeOf}
-use Rattle.group.proofs.Rows.{row-below, full-row}
+use Rattle.group.proofs.LevelRows.{row-below, full-row}
 use Rattle.group.proofs.Checks.{rules-hold, checked-size}
 use Rattle.writing.proofs.Stairs.{stairs, at-most-tabulate, length-stairs, stairs-low, stairs-fit}
 use Rattle.writing.proofs.Writes.{write-accepted}

@@ -14,7 +14,7 @@ use Rattle.order.proofs.Cells.{both}
 use Rattle.group.specs.declared.Group.{Group}
 use Rattle.group.specs.Levels.{rises}
 use Rattle.group.specs.Record.{allAtMost}
-use Rattle.group.proofs.Rows.{row-true}
+use Rattle.group.proofs.LevelRows.{row-true}
 use Rattle.group.proofs.Checks.{checked-levels}
 use Rattle.plain_machine.specs.Machine.{applyOf}
 use Rattle.plain_machine.proofs.Machine.{apply-rises}

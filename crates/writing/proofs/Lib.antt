@@ -1,6 +1,6 @@
-pub mod Raise
+pub mod Minimal
 pub mod Orders
-pub mod Raising
+pub mod WriteLoop
 pub mod Told
 pub mod Row
 pub mod Writes

@@ -17,14 +17,14 @@ use Rattle.order.proofs.Check.{order-parts}
 use Rattle.group.specs.declared.Group.{Group}
 use Rattle.group.specs.Record.{allAtMost, groupChecks}
 use Rattle.group.specs.Levels.{AtMost}
-use Rattle.group.proofs.Rows.{row-true, row-below}
+use Rattle.group.proofs.LevelRows.{row-true, row-below}
 use Rattle.group.proofs.Levels.{at-most-refl, at-most-trans, at-most-length, at-most-true, true-at-most}
 use Rattle.group.proofs.Checks.{checked-size, checked-levels, checked-caps}
 use Rattle.group.proofs.Groups.{IsGroup, told-value, told-accepted, group-with}
 use Rattle.writing.specs.PushUp.{singles, Shows}
 use Rattle.writing.specs.WriteAnswer.{Program, raised, fits, pushChecks, pushed, unpushed, writeOf}
-use Rattle.writing.proofs.Raise.{raise-least}
-use Rattle.writing.proofs.Raising.{few-pushes}
+use Rattle.writing.proofs.Minimal.{raise-least}
+use Rattle.writing.proofs.WriteLoop.{few-pushes}
 use Rattle.writing.proofs.Orders.{order-shows}
 
 -- an order that is handed in for a group, and the group's levels, can be raised

@@ -1,6 +1,6 @@
 // The plain machine's write (document 01, "The plain machine"): minimal push-up to an order, with its push program. Every public function takes
 // any record and any order and answers them by one equation with a definition of specs/. Proved besides: the push-up lowers no cell, shows its
-// target, and is at or below every set of levels that does both (proofs/Raise); a group stays a group (proofs/Writes).
+// target, and is at or below every set of levels that does both (proofs/Minimal); a group stays a group (proofs/Writes).
 use group::Group;
 use order::Cell;
 use order::Order;
