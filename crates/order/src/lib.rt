@@ -138,7 +138,7 @@ pub fn is_order(o: Order, n: usize) -> bool
     if o.len != n {
         return false;
     }
-    if !is_size(o.len) {
+    if !is_size(n) {
         return false;
     }
     if is_padded(o) {
@@ -187,11 +187,11 @@ fn lists_each_once(o: Order) -> bool
 pub fn check_order(o: Order) -> Outcome
     ensures { λ r. ⌜ outcomeNumber r ≡ numberOf (orderChecks o) ⌝ }
 {
-    let n = o.len;
-    if !is_size(n) {
+    let len = o.len;
+    if !is_size(len) {
         return Outcome::Refused(Refusal::Size);
     }
-    if !is_order(o, n) {
+    if !is_order(o, len) {
         return Outcome::Refused(Refusal::NoOrder);
     }
     Outcome::Done
