@@ -22,7 +22,7 @@ use Rattle.runs.specs.Text.{lines, allPulses, room}
 use Rattle.runs.specs.Pieces.{progressAfter, linesFrom, takes}
 use Rattle.lines.specs.Puts.{Puts}
 use Rattle.lines.proofs.Paste.{puts-none, puts-join, puts-as}
-use Rattle.lines.proofs.Room.{Put, put-line}
+use Rattle.lines.proofs.InRoom.{Put, put-line}
 use Rattle.runs.proofs.Follow.{lines-follow, progress-follows}
 
 -- what it is that a run takes a piece

@@ -1,4 +1,4 @@
 pub mod Paste
 pub mod Decimal
 pub mod Commas
-pub mod Room
+pub mod InRoom

@@ -8,7 +8,7 @@ use lib.ListN.{length}
 use borrow.Author.Tests.{not-true, not-false}
 use Rattle.lines.specs.Line.{leftLine, sumLine}
 use Rattle.lines.proofs.Paste.{puts-join}
-use Rattle.lines.proofs.Room.{put-line}
+use Rattle.lines.proofs.InRoom.{put-line}
 use Rattle.calls.proofs.Running.{taken-parts}
 use Rattle.calls.proofs.Printed.{end-refused, end-put}
 use Rattle.calls.proofs.finish.Statement.{statement}

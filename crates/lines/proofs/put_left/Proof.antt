@@ -8,7 +8,7 @@ use mathlib.Core.List.{[], _∷_, _++_}
 use Rattle.lines.specs.Line.{after, leftLine}
 use Rattle.lines.proofs.Paste.{puts-none, puts-join, puts-as}
 use Rattle.lines.proofs.Decimal.{short}
-use Rattle.lines.proofs.Room.{none-put, line-put}
+use Rattle.lines.proofs.InRoom.{none-put, line-put}
 use Rattle.lines.proofs.put_left.Statement.{statement}
 use Rattle.lines.proofs.put_left.Tie as tie
 

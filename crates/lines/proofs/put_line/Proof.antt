@@ -10,7 +10,7 @@ use Rattle.records.specs.declared.Answered.{Answered}
 use Rattle.records.specs.Records.{toldAnswered}
 use Rattle.lines.specs.Line.{levelText, numbersOf, lineOf}
 use Rattle.lines.proofs.Paste.{puts-join, puts-as}
-use Rattle.lines.proofs.Room.{none-put, line-put}
+use Rattle.lines.proofs.InRoom.{none-put, line-put}
 use Rattle.lines.proofs.put_line.Statement.{statement}
 use Rattle.lines.proofs.put_line.Tie as tie
 

@@ -8,7 +8,7 @@ use Rattle.lines.specs.Line.{after, sumLine}
 use Rattle.lines.proofs.Paste.{puts-join}
 use Rattle.lines.proofs.Decimal.{short}
 use Rattle.lines.specs.Puts.{Puts}
-use Rattle.lines.proofs.Room.{none-put, line-put}
+use Rattle.lines.proofs.InRoom.{none-put, line-put}
 use Rattle.lines.proofs.put_sum.Statement.{statement}
 use Rattle.lines.proofs.put_sum.Tie as tie
 
