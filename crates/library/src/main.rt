@@ -1,0 +1,120 @@
+// Runs the functions of `exports`, and `calls::run`, as a program that links them does: the number of codewords of n cells for n = 0 to 13; for each
+// file of data/ the room, the answers where a byte of it is missing and where none is, and the text; and an input longer than is read. The
+// expected text is not the engine's own: scripts/reference reckons the texts, and K(n) is the number of ways to choose coordinates 1 to n - 1,
+// coordinate i from 0 to i, such that the sum of i times coordinate i is divisible by 2n - 1, counted one residue at a time.
+use libc::STDOUT_FILENO;
+ghost use mathlib.Core.Path.{_≡_};
+ghost use lib.ListN.{length};
+
+fn main() {
+    words();
+    show(b"refusals");
+    show(b"left");
+    show(b"empty");
+    show(b"cut");
+    line(b"long");
+    let input = long_input();
+    let mut text = text_buffer();
+    tell_end(&input, &mut text);
+}
+
+// K(n) for n = 0 to 13: 0 where n is no size.
+fn words() {
+    let mut n = 0;
+    while n < 14 {
+        number(b"words ", exports::rm_words(n) as u64);
+        n += 1;
+    }
+}
+
+// A file's room, answers and text.
+fn show(path: &[u8]) {
+    line(path);
+    let file = os::open_read(path);
+    if file < 0 {
+        os::fail(path);
+        return;
+    }
+    let mut input = io::large_buffer();
+    let size = io::read_full(file, &mut input);
+    libc::close(file);
+    let mut text = text_buffer();
+    tell(&input[..size], &mut text);
+}
+
+fn tell(input: &[u8], text: &mut [u8]) {
+    let room = exports::rm_room(input.len());
+    number(b"room ", room as u64);
+    if room == 0 {
+        return;
+    }
+    let none = rm_run_in(input, text, room - 1);
+    number(b"rm_run without room ", none as u64);
+    number(b"first byte ", first(text));
+    let end = calls::run(input, text);
+    number(b"calls::run ", end as u64);
+    let again = rm_run_in(input, text, room);
+    number(b"rm_run ", again as u64);
+    write_part(text, again);
+}
+
+// `rm_run` with a buffer of so many bytes.
+fn rm_run_in(input: &[u8], text: &mut [u8], space: usize) -> usize {
+    if text.len() < space {
+        return 0;
+    }
+    exports::rm_run(input, &mut text[..space])
+}
+
+fn first(text: &[u8]) -> u64 {
+    if text.len() == 0 {
+        return 0;
+    }
+    wide(text[0])
+}
+
+fn write_part(text: &[u8], end: usize) {
+    if end <= text.len() {
+        io::write_all(STDOUT_FILENO, &text[..end]);
+    }
+}
+
+// The room and the answer for an input that is longer than is read, and the last line of its text.
+fn tell_end(input: &[u8], text: &mut [u8]) {
+    number(b"room ", exports::rm_room(input.len()) as u64);
+    let end = exports::rm_run(input, text);
+    number(b"rm_run ", end as u64);
+    if 6 <= end && end <= text.len() {
+        let from = end - 6;
+        io::write_all(STDOUT_FILENO, &text[from..end]);
+    }
+}
+
+// One record more than is read, of zeros.
+fn long_input() -> [u8; 65544]
+    ensures { λ r. ⌜ 65544 ≡ length r ⌝ }
+{
+    [0; 65544]
+}
+
+// Room for the longest text.
+fn text_buffer() -> [u8; 1048640]
+    ensures { λ r. ⌜ 1048640 ≡ length r ⌝ }
+{
+    [0; 1048640]
+}
+
+fn wide(b: u8) -> u64 {
+    b as u64
+}
+
+fn number(name: &[u8], n: u64) {
+    io::write_all(STDOUT_FILENO, name);
+    io::print_decimal(STDOUT_FILENO, n);
+    io::write_all(STDOUT_FILENO, b"\n");
+}
+
+fn line(name: &[u8]) {
+    io::write_all(STDOUT_FILENO, name);
+    io::write_all(STDOUT_FILENO, b"\n");
+}
