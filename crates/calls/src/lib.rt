@@ -1,6 +1,6 @@
 // The text that the program `rmcalls` prints, put into a lent buffer (document 01, "Calls outside the list"): `run`, for a whole input; `go_on` and
-// `finish`, for the pieces of one. Each has an equation for its answer and one for the buffer. Records are answered by `records::step`; where a run
-// stands, and the text, are defined in crate `runs`.
+// `finish`, for the pieces of one. Each has an equation for its answer and one for the buffer. Records are answered by `records::step`, and their
+// lines put by crate `lines`; where a run stands, and the text, are defined in crate `runs`.
 use order::Cell;
 use records::CallRecord;
 use runs::PieceAnswer;
