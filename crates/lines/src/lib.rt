@@ -6,7 +6,7 @@ use records::Answered;
 ghost use mathlib.Core.Path.{_≡_};
 ghost use mathlib.Core.List.{[], _∷_, _++_};
 ghost use Prim.Native.Nat.{_+_, _*_, _/_, _%_, _≤_, _<_};
-ghost use lib.ListN.{length, take, drop};
+ghost use lib.ListN.{length, take};
 ghost use Rattle.records.specs.Records.{toldAnswered};
 ghost use Rattle.lines.specs.Line.{decimal, after, levelText, numbersOf, lineOf, leftLine, sumLine, pasted, inRoom};
 ghost use Rattle.lines.specs.Puts.{Puts, pair};
