@@ -14,9 +14,6 @@ use Rattle.calls.proofs.Printed.{end-refused, end-put}
 use Rattle.calls.proofs.finish.Statement.{statement}
 use Rattle.calls.proofs.finish.Tie as tie
 
-takes-requires : tie.Need-takes-requires
-takes-requires c κs = search needs
-
 returns : tie.Need-returns
 returns c = end-refused _ _ _ (sym (c .before .takes .ensures) ∙ not-true _ (c .if1 .taken))
 
@@ -38,19 +35,10 @@ rest p =
 cast-put-left : tie.Need-cast-put-left
 cast-put-left c = omega (arith, rest (c .before .before .before) .1)
 
-put-left-requires : tie.Need-put-left-requires
-put-left-requires c κs = search needs
-
 cast-put-sum : tie.Need-cast-put-sum
 cast-put-sum c =
     let l = c .before .before .before .before in
     omega (arith, rest (l .before .before .before .before) .1, l .put-left .ensures .1 .1)
-
-put-sum-requires : tie.Need-put-sum-requires
-put-sum-requires c κs = search needs
-
-same-length : tie.Need-same-length
-same-length c = search needs
 
 returns-2 : tie.Need-returns-2
 returns-2 c =
@@ -74,12 +62,12 @@ pub finish-spec : {M : Type 1} → statement M
 finish-spec =
     tie.close
     (tie.spec
-    takes-requires
+    (λ c κs. search needs)
     returns
     put-lines-requires
     cast-put-left
-    put-left-requires
+    (λ c κs. search needs)
     cast-put-sum
-    put-sum-requires
-    same-length
+    (λ c κs. search needs)
+    (λ c. search needs)
     returns-2)

@@ -12,9 +12,6 @@ use Rattle.calls.proofs.Printed.{piece-refused, piece-put}
 use Rattle.calls.proofs.go_on.Statement.{statement}
 use Rattle.calls.proofs.go_on.Tie as tie
 
-goes-on-requires : tie.Need-goes-on-requires
-goes-on-requires c κs = search needs
-
 returns : tie.Need-returns
 returns c = piece-refused _ _ _ (sym (c .before .goes-on .ensures) ∙ not-true _ (c .if1 .taken))
 
@@ -35,4 +32,4 @@ returns-2 c =
     piece-put _ _ _ (sym (q .before .before .goes-on .ensures) ∙ not-false _ (q .before .if1 .left)) (p .put-lines .result) (p .put-lines .ensures .0) (p .put-lines .ensures .1 .1)
 
 pub go-on-spec : {M : Type 1} → statement M
-go-on-spec = tie.close (tie.spec goes-on-requires returns put-lines-requires same-length returns-2)
+go-on-spec = tie.close (tie.spec (λ c κs. search needs) returns put-lines-requires same-length returns-2)

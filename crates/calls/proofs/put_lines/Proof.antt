@@ -14,17 +14,11 @@ Inv-loop input out₀ count g₀ pulses₀ position₀ end₀ i₀ out g pulses 
 abbrev μ-loop : tie.MeasureT-loop
 μ-loop input out₀ count g₀ pulses₀ position₀ end₀ i₀ out g pulses position end i = count - i
 
-by-fields-requires : tie.Need-by-fields-requires Inv-loop μ-loop
-by-fields-requires c κs = search needs
-
 loop-holds : tie.Need-loop-holds Inv-loop μ-loop
 loop-holds c = running-starts (c .before .before .before .before .pre)
 
 record-at-requires : tie.Need-record-at-requires Inv-loop μ-loop
 record-at-requires c κs = let run = c .before .loop .inv in omega (arith, run .whole, c .loop-test .taken)
-
-step-requires : tie.Need-step-requires Inv-loop μ-loop
-step-requires c κs = search needs
 
 add-i : tie.Need-add-i Inv-loop μ-loop
 add-i c = omega (arith, c .before .before .loop-test .taken, c .before .before .before .loop .inv .few)
@@ -35,26 +29,17 @@ add-position c =
     let run = t .before .loop .inv in
     omega (arith, t .loop-test .taken, run .place, run .few)
 
-cast-pulses : tie.Need-cast-pulses Inv-loop μ-loop
-cast-pulses c = search needs
-
 add-pulses : tie.Need-add-pulses Inv-loop μ-loop
 add-pulses c =
     let t = c .before .before .before in
     let run = t .before .loop .inv in
     omega (arith, t .loop-test .taken, run .place, run .few, run .small, c .struct-known .given)
 
-by-fields-requires-2 : tie.Need-by-fields-requires-2 Inv-loop μ-loop
-by-fields-requires-2 c κs = search needs
-
 cast-put-line : tie.Need-cast-put-line Inv-loop μ-loop
 cast-put-line c =
     let t = c .before .before .before .before .before .before in
     let run = t .before .loop .inv in
     omega (arith, t .loop-test .taken, run .within, run .few)
-
-put-line-requires : tie.Need-put-line-requires Inv-loop μ-loop
-put-line-requires c κs = search needs
 
 loop-less : tie.Need-loop-less Inv-loop μ-loop
 loop-less c = omega (arith, c .before .before .before .before .before .before .before .before .before .loop-test .taken)
@@ -92,17 +77,17 @@ put-lines-spec =
     (tie.spec
     Inv-loop
     μ-loop
-    by-fields-requires
+    (λ c κs. search needs)
     loop-holds
     record-at-requires
-    step-requires
+    (λ c κs. search needs)
     add-i
     add-position
-    cast-pulses
+    (λ c. search needs)
     add-pulses
-    by-fields-requires-2
+    (λ c κs. search needs)
     cast-put-line
-    put-line-requires
+    (λ c κs. search needs)
     loop-less
     loop-again
     same-length

@@ -13,20 +13,8 @@ use Rattle.calls.proofs.Printed.{whole-printed}
 use Rattle.calls.proofs.run.Statement.{statement}
 use Rattle.calls.proofs.run.Tie as tie
 
-begin-requires : tie.Need-begin-requires
-begin-requires c κs = search needs
-
-size-read-requires : tie.Need-size-read-requires
-size-read-requires c κs = search needs
-
 slice-aggregate-finish : tie.Need-slice-aggregate-finish
 slice-aggregate-finish c = sym (length-take-le _ _ (omega (arith, c .before .size-read .ensures)))
-
-finish-requires : tie.Need-finish-requires
-finish-requires c κs = search needs
-
-same-length : tie.Need-same-length
-same-length c = search needs
 
 returns : tie.Need-returns
 returns c =
@@ -42,9 +30,9 @@ pub run-spec : {M : Type 1} → statement M
 run-spec =
     tie.close
     (tie.spec
-    begin-requires
-    size-read-requires
+    (λ c κs. search needs)
+    (λ c κs. search needs)
     slice-aggregate-finish
-    finish-requires
-    same-length
+    (λ c κs. search needs)
+    (λ c. search needs)
     returns)

@@ -16,12 +16,6 @@ use Rattle.code.proofs.Codewords.{codeword-answer}
 use Rattle.code.proofs.codeword.Statement.{statement}
 use Rattle.code.proofs.codeword.Tie as tie
 
-is-size-requires : tie.Need-is-size-requires
-is-size-requires c κs = search needs
-
-no-order-requires : tie.Need-no-order-requires
-no-order-requires c κs = search needs
-
 returns : tie.Need-returns
 unfolding codewordOf
 returns c =
@@ -33,9 +27,6 @@ sized c = sym (c .before .is-size .ensures) ∙ not-false _ (c .if1 .left)
 
 words-of-requires : tie.Need-words-of-requires
 words-of-requires c κs = sized c
-
-no-order-requires-2 : tie.Need-no-order-requires-2
-no-order-requires-2 c κs = search needs
 
 returns-2 : tie.Need-returns-2
 unfolding codewordOf
@@ -53,9 +44,6 @@ some c = omega (arith, c .before .words-of .ensures)
 word-requires : tie.Need-word-requires
 word-requires c κs = (sized (c .before .before), omega (arith, some c))
 
-from-coordinates-requires : tie.Need-from-coordinates-requires
-from-coordinates-requires c κs = search needs
-
 returns-3 : tie.Need-returns-3
 returns-3 c =
     let w = c .before in
@@ -69,12 +57,12 @@ pub codeword-spec : {M : Type 1} → statement M
 codeword-spec =
     tie.close
     (tie.spec
-    is-size-requires
-    no-order-requires
+    (λ c κs. search needs)
+    (λ c κs. search needs)
     returns
     words-of-requires
-    no-order-requires-2
+    (λ c κs. search needs)
     returns-2
     word-requires
-    from-coordinates-requires
+    (λ c κs. search needs)
     returns-3)

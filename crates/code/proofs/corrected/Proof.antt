@@ -10,20 +10,11 @@ use Rattle.code.proofs.Reading.{corrected-refused, found-word, correcte
 use Rattle.code.proofs.corrected.Statement.{statement}
 use Rattle.code.proofs.corrected.Tie as tie
 
-nearest-requires : tie.Need-nearest-requires
-nearest-requires c κs = search needs
-
-enum-known-outcome : tie.Need-enum-known-outcome
-enum-known-outcome c = search needs
-
 returns : tie.Need-returns
 returns c =
     let told = c .before .outcome .given in
     let a = c .before .before .before .before .nearest in
     corrected-refused _ (a .result) (a .ensures) (told .0 .0) (told .1)
-
-enum-told : tie.Need-enum-told
-enum-told c = search needs
 
 -- the order has passed its checks, and is not lost
 done : (c : tie.After-enum-told) → numberOf (decodeChecks (c .before .before .before .before .args .o)) ≡ 0
@@ -33,9 +24,6 @@ number-requires : tie.Need-number-requires
 number-requires c κs =
     let a = c .before .before .before .nearest in
     found-word _ (a .result) (a .ensures) (done c)
-
-verdict-at-requires : tie.Need-verdict-at-requires
-verdict-at-requires c κs = search needs
 
 returns-2 : tie.Need-returns-2
 returns-2 c =
@@ -47,10 +35,10 @@ pub corrected-spec : {M : Type 1} → statement M
 corrected-spec =
     tie.close
     (tie.spec
-    nearest-requires
-    enum-known-outcome
+    (λ c κs. search needs)
+    (λ c. search needs)
     returns
-    enum-told
+    (λ c. search needs)
     number-requires
-    verdict-at-requires
+    (λ c κs. search needs)
     returns-2)

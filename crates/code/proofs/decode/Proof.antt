@@ -6,11 +6,8 @@ use Rattle.code.proofs.Reading.{readingTold, decode-part}
 use Rattle.code.proofs.decode.Statement.{statement}
 use Rattle.code.proofs.decode.Tie as tie
 
-corrected-requires : tie.Need-corrected-requires
-corrected-requires c κs = search needs
-
 returns : tie.Need-returns
 returns c = ap readingTold (c .corrected .ensures) ∙ decode-part (c .before .args .o)
 
 pub decode-spec : {M : Type 1} → statement M
-decode-spec = tie.close (tie.spec corrected-requires returns)
+decode-spec = tie.close (tie.spec (λ c κs. search needs) returns)

@@ -26,9 +26,6 @@ sub-v c = omega arith
 element-copy-out-v : tie.Need-element-copy-out-v Inv-loop μ-loop
 element-copy-out-v c = omega arith
 
-cast-v : tie.Need-cast-v Inv-loop μ-loop
-cast-v c = search needs
-
 pass-requires : tie.Need-pass-requires Inv-loop μ-loop
 pass-requires c κs =
     let pre = c .before .before .before .before .pre in
@@ -64,7 +61,7 @@ number-by-spec =
     loop-holds
     sub-v
     element-copy-out-v
-    cast-v
+    (λ c. search needs)
     pass-requires
     add-sum
     add-i

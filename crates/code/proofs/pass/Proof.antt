@@ -19,12 +19,6 @@ abbrev μ-loop : tie.MeasureT-loop
 loop-holds : tie.Need-loop-holds Inv-loop μ-loop
 loop-holds c = (omega arith, sym (before-zero _ _ _), none (c .before .pre .1 .0))
 
-add-tail-count : tie.Need-add-tail-count Inv-loop μ-loop
-add-tail-count c = search needs
-
-tail-count-requires : tie.Need-tail-count-requires Inv-loop μ-loop
-tail-count-requires c κs = search needs
-
 -- the count that was read
 read : (c : tie.After-tail-count Inv-loop μ-loop) → let a = c .before .before .before .before .args in c .tail-count .result ≡ having (a .n) (a .i) (a .r) (c .before .before .loop .u)
 read c = counted _ (c .before .before .loop .inv .2) (c .tail-count .ensures)
@@ -38,12 +32,6 @@ add-count c =
       before-next (a .n) (a .i) (a .r) (omega arith) (c .before .before .loop .u) (omega arith),
       tails-fit (a .n) (a .i) (a .r) (omega arith) (omega arith),
     )
-
-residue-after-requires : tie.Need-residue-after-requires Inv-loop μ-loop
-residue-after-requires c κs = search needs
-
-add-u : tie.Need-add-u Inv-loop μ-loop
-add-u c = search needs
 
 loop-less : tie.Need-loop-less Inv-loop μ-loop
 loop-less c = omega arith
@@ -70,11 +58,11 @@ pass-spec =
     Inv-loop
     μ-loop
     loop-holds
-    add-tail-count
-    tail-count-requires
+    (λ c. search needs)
+    (λ c κs. search needs)
     add-count
-    residue-after-requires
-    add-u
+    (λ c κs. search needs)
+    (λ c. search needs)
     loop-less
     loop-again
     returns)

@@ -19,9 +19,6 @@ loop-holds c =
     let (low, high) = size-true _ (c .before .pre .1 .0) in
     start _ _ (record { low = low; high = high; some = c .before .pre .1 .1 })
 
-choose-requires : tie.Need-choose-requires Inv-loop μ-loop
-choose-requires c κs = search needs
-
 cast-values : tie.Need-cast-values Inv-loop μ-loop
 cast-values c = omega arith
 
@@ -53,7 +50,7 @@ word-by-spec =
     Inv-loop
     μ-loop
     loop-holds
-    choose-requires
+    (λ c κs. search needs)
     cast-values
     sub-values
     array-write-values

@@ -11,9 +11,6 @@ use Rattle.code.specs.Symbols.{wordsOf}
 use Rattle.code.proofs.words.Statement.{statement}
 use Rattle.code.proofs.words.Tie as tie
 
-is-size-requires : tie.Need-is-size-requires
-is-size-requires c κs = search needs
-
 returns : tie.Need-returns
 unfolding wordsOf
 returns c = told-refused _ _ _ Size (check-fails _ _ (sym (c .before .is-size .ensures) ∙ not-true _ (c .if1 .taken)))
@@ -34,4 +31,4 @@ returns-2 c =
 pub words-spec : {M : Type 1} → statement M
 words-spec =
     tie.close
-    (tie.spec is-size-requires returns words-of-requires returns-2)
+    (tie.spec (λ c κs. search needs) returns words-of-requires returns-2)

@@ -20,24 +20,6 @@ abbrev μ-loop : tie.MeasureT-loop
 loop-holds : tie.Need-loop-holds Inv-loop μ-loop
 loop-holds c = ranged-none _ (search needs)
 
-add-limit-of : tie.Need-add-limit-of Inv-loop μ-loop
-add-limit-of c = search needs
-
-limit-of-requires : tie.Need-limit-of-requires Inv-loop μ-loop
-limit-of-requires c κs = search needs
-
-element-copy-out-wide : tie.Need-element-copy-out-wide Inv-loop μ-loop
-element-copy-out-wide c = search needs
-
-wide-requires : tie.Need-wide-requires Inv-loop μ-loop
-wide-requires c κs = search needs
-
-add-k : tie.Need-add-k Inv-loop μ-loop
-add-k c = search needs
-
-loop-less : tie.Need-loop-less Inv-loop μ-loop
-loop-less c = search needs
-
 -- what the flag is after the test
 tested : (c : tie.Joined1 Inv-loop μ-loop) →
     let value = c .before in
@@ -61,11 +43,11 @@ are-in-range-spec =
     Inv-loop
     μ-loop
     loop-holds
-    add-limit-of
-    limit-of-requires
-    element-copy-out-wide
-    wide-requires
-    add-k
-    loop-less
+    (λ c. search needs)
+    (λ c κs. search needs)
+    (λ c. search needs)
+    (λ c κs. search needs)
+    (λ c. search needs)
+    (λ c. search needs)
     loop-again
     returns)

@@ -8,19 +8,10 @@ use lib.Pow.{pow-lt}
 use Rattle.coordinates.proofs.bit_of.Statement.{statement}
 use Rattle.coordinates.proofs.bit_of.Tie as tie
 
-sub-result : tie.Need-sub-result
-sub-result c = search needs
-
-cast-result : tie.Need-cast-result
-cast-result c = search needs
-
-shl-result : tie.Need-shl-result
-shl-result c = search needs
-
 returns : tie.Need-returns
 returns c =
     let l : c .args .c - 1 < 32 = omega arith in
     rw one-mul (mod-eq-of-lt (pow-lt l))
 
 pub bit-of-spec : {M : Type 1} → statement M
-bit-of-spec = tie.close (tie.spec sub-result cast-result shl-result returns)
+bit-of-spec = tie.close (tie.spec (λ c. search needs) (λ c. search needs) (λ c. search needs) returns)

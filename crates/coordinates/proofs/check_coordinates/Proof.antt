@@ -21,9 +21,6 @@ returns-2 c = sym (check-fails _ _ (size-high (c .before .before .args .x .len +
 sized : (c : tie.Else2) → isSize (c .before .before .args .x .len + 1) ≡ true
 sized c = size-in (c .before .before .args .x .len + 1) (omega arith) (omega arith)
 
-are-in-range-requires : tie.Need-are-in-range-requires
-are-in-range-requires c κs = search needs
-
 returns-3 : tie.Need-returns-3
 returns-3 c = sym (check-holds _ _ (sized (c .before .before)) ∙ check-fails _ _ (sym (c .before .are-in-range .ensures) ∙ not-true _ (c .if3 .taken)))
 
@@ -33,4 +30,4 @@ returns-4 c =
 
 pub check-coordinates-spec : {M : Type 1} → statement M
 check-coordinates-spec =
-    tie.close (tie.spec returns returns-2 are-in-range-requires returns-3 returns-4)
+    tie.close (tie.spec returns returns-2 (λ c κs. search needs) returns-3 returns-4)

@@ -28,15 +28,6 @@ turn c = record { state = c .before .before .before .loop .inv; more = c .before
 loop-holds : tie.Need-loop-holds Inv-loop μ-loop
 loop-holds c = counted-none _ _ (length-places _ (search length-mapped)) (c .pre .1) (c .pre .2)
 
-sub-i : tie.Need-sub-i Inv-loop μ-loop
-sub-i c = search needs
-
-element-copy-out-number : tie.Need-element-copy-out-number Inv-loop μ-loop
-element-copy-out-number c = search needs
-
-number-requires : tie.Need-number-requires Inv-loop μ-loop
-number-requires c κs = search needs
-
 count-below-requires : tie.Need-count-below-requires Inv-loop μ-loop
 count-below-requires c κs = (counted-low (turn c), counted-high (turn c))
 
@@ -52,16 +43,10 @@ bit-of-requires c κs =
 bit : (c : tie.After-bit-of Inv-loop μ-loop) → c .bit-of .result ≡ 2 ^ (c .before .before .before .before .number .result - 1)
 bit c = c .bit-of .ensures
 
-loop-less : tie.Need-loop-less Inv-loop μ-loop
-loop-less c = search needs
-
 loop-again : tie.Need-loop-again Inv-loop μ-loop
 loop-again c =
     rw (bit c, c .before .put-coordinate .ensures, c .before .before .before .count-below .ensures)
     (counted-more (turn (c .before .before .before .before)))
-
-sub-t16 : tie.Need-sub-t16 Inv-loop μ-loop
-sub-t16 c = search needs
 
 returns : tie.Need-returns Inv-loop μ-loop
 unfolding coordinatesOf
@@ -74,13 +59,13 @@ coordinates-by-sweep-spec =
     Inv-loop
     μ-loop
     loop-holds
-    sub-i
-    element-copy-out-number
-    number-requires
+    (λ c. search needs)
+    (λ c. search needs)
+    (λ c κs. search needs)
     count-below-requires
     put-coordinate-requires
     bit-of-requires
-    loop-less
+    (λ c. search needs)
     loop-again
-    sub-t16
+    (λ c. search needs)
     returns)

@@ -8,18 +8,6 @@ use Rattle.coordinates.specs.Conversion.{coordinatesOfOrder}
 use Rattle.coordinates.proofs.coordinates_of.Statement.{statement}
 use Rattle.coordinates.proofs.coordinates_of.Tie as tie
 
-check-order-requires : tie.Need-check-order-requires
-check-order-requires c κs = search needs
-
-enum-told : tie.Need-enum-told
-enum-told c = search needs
-
-enum-told-2 : tie.Need-enum-told-2
-enum-told-2 c = search needs
-
-zero-coordinates-requires : tie.Need-zero-coordinates-requires
-zero-coordinates-requires c κs = search needs
-
 returns : tie.Need-returns
 unfolding coordinatesOfOrder
 returns c =
@@ -41,10 +29,10 @@ pub coordinates-of-spec : {M : Type 1} → statement M
 coordinates-of-spec =
     tie.close
     (tie.spec
-    check-order-requires
-    enum-told
-    enum-told-2
-    zero-coordinates-requires
+    (λ c κs. search needs)
+    (λ c. search needs)
+    (λ c. search needs)
+    (λ c κs. search needs)
     returns
     coordinates-by-sweep-requires
     returns-2)

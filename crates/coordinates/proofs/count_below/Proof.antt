@@ -10,9 +10,6 @@ use lib.Count.{ones-le}
 use Rattle.coordinates.proofs.count_below.Statement.{statement}
 use Rattle.coordinates.proofs.count_below.Tie as tie
 
-bit-of-requires : tie.Need-bit-of-requires
-bit-of-requires c κs = search needs
-
 -- the bit of c
 bit : (c : tie.After-bit-of) → c .bit-of .result ≡ 2 ^ (c .before .args .c - 1)
 bit c = c .bit-of .ensures
@@ -29,4 +26,4 @@ returns : tie.Need-returns
 returns c = rw (bit c)
 
 pub count-below-spec : {M : Type 1} → statement M
-count-below-spec = tie.close (tie.spec bit-of-requires rem-result cast-result returns)
+count-below-spec = tie.close (tie.spec (λ c κs. search needs) rem-result cast-result returns)

@@ -12,24 +12,12 @@ use Rattle.coordinates.specs.Conversion.{orderOfCoordinates}
 use Rattle.coordinates.proofs.from_coordinates.Statement.{statement}
 use Rattle.coordinates.proofs.from_coordinates.Tie as tie
 
-check-coordinates-requires : tie.Need-check-coordinates-requires
-check-coordinates-requires c κs = search needs
-
-enum-known-outcome : tie.Need-enum-known-outcome
-enum-known-outcome c = search needs
-
-no-order-requires : tie.Need-no-order-requires
-no-order-requires c κs = search needs
-
 returns : tie.Need-returns
 unfolding orderOfCoordinates
 returns c =
     let known = c .before .before .outcome .given in
     c .no-order .ensures
     ∙ told-refused _ _ _ (known .0 .0) (sym (c .before .before .before .before .check-coordinates .ensures) ∙ ap outcomeNumber (known .1))
-
-enum-told : tie.Need-enum-told
-enum-told c = search needs
 
 order-by-insertion-requires : tie.Need-order-by-insertion-requires
 order-by-insertion-requires c κs =
@@ -47,10 +35,10 @@ pub from-coordinates-spec : {M : Type 1} → statement M
 from-coordinates-spec =
     tie.close
     (tie.spec
-    check-coordinates-requires
-    enum-known-outcome
-    no-order-requires
+    (λ c κs. search needs)
+    (λ c. search needs)
+    (λ c κs. search needs)
     returns
-    enum-told
+    (λ c. search needs)
     order-by-insertion-requires
     returns-2)

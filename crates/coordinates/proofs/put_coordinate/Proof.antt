@@ -8,11 +8,8 @@ use Rattle.coordinates.proofs.put_coordinate.Tie as tie
 returns : tie.Need-returns
 returns c = rw (lt-ltb _ _ (c .if1 .taken))
 
-element-write-values : tie.Need-element-write-values
-element-write-values c = search needs
-
 returns-2 : tie.Need-returns-2
 returns-2 c = rw (le-ltb _ _ (c .if1 .left))
 
 pub put-coordinate-spec : {M : Type 1} → statement M
-put-coordinate-spec = tie.close (tie.spec returns element-write-values returns-2)
+put-coordinate-spec = tie.close (tie.spec returns (λ c. search needs) returns-2)

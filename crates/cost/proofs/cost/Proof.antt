@@ -11,20 +11,11 @@ use Rattle.cost.proofs.ByRank.{cost-ranked}
 use Rattle.cost.proofs.cost.Statement.{statement}
 use Rattle.cost.proofs.cost.Tie as tie
 
-ranks-of-pair-requires : tie.Need-ranks-of-pair-requires
-ranks-of-pair-requires c κs = search needs
-
-enum-known-outcome : tie.Need-enum-known-outcome
-enum-known-outcome c = search needs
-
 returns : tie.Need-returns
 unfolding costOf
 returns c =
     let a = c .before .before .before .ranks-of-pair in
     told-refused _ _ _ (c .before .outcome .given .0 .0) (sym (pair-number _ _ (a .result) (a .ensures)) ∙ ap outcomeNumber (c .before .outcome .given .1))
-
-enum-told : tie.Need-enum-told
-enum-told c = search needs
 
 largest-growth-requires : tie.Need-largest-growth-requires
 largest-growth-requires c κs = pair-low _ _ _ (c .before .before .ranks-of-pair .ensures) (c .enum-told .given .1)
@@ -40,9 +31,9 @@ pub cost-spec : {M : Type 1} → statement M
 cost-spec =
     tie.close
     (tie.spec
-    ranks-of-pair-requires
-    enum-known-outcome
+    (λ c κs. search needs)
+    (λ c. search needs)
     returns
-    enum-told
+    (λ c. search needs)
     largest-growth-requires
     returns-2)

@@ -8,12 +8,6 @@ use Rattle.cost.proofs.Signs.{machine-sub, machine-fits}
 use Rattle.cost.proofs.displacement.Statement.{statement}
 use Rattle.cost.proofs.displacement.Tie as tie
 
-cast-after : tie.Need-cast-after
-cast-after c = search needs
-
-cast-before : tie.Need-cast-before
-cast-before c = search needs
-
 sub-result : tie.Need-sub-result
 sub-result c =
     let low = c .before .before .pre .0 in
@@ -27,4 +21,4 @@ returns c =
     toZ-ofZ w8 _ (sub-result c) ∙ rw machine-sub
 
 pub displacement-spec : {M : Type 1} → statement M
-displacement-spec = tie.close (tie.spec cast-after cast-before sub-result returns)
+displacement-spec = tie.close (tie.spec (λ c. search needs) (λ c. search needs) sub-result returns)

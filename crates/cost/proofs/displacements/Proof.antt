@@ -8,15 +8,6 @@ use Rattle.cost.proofs.ByRank.{displacements-ranked}
 use Rattle.cost.proofs.displacements.Statement.{statement}
 use Rattle.cost.proofs.displacements.Tie as tie
 
-ranks-of-pair-requires : tie.Need-ranks-of-pair-requires
-ranks-of-pair-requires c κs = search needs
-
-enum-told : tie.Need-enum-told
-enum-told c = search needs
-
-enum-told-2 : tie.Need-enum-told-2
-enum-told-2 c = search needs
-
 returns : tie.Need-returns
 unfolding displacementsOf
 returns c = passed-on _ _ _ _ (pair-number _ _ (c .before .before .ranks-of-pair .result) (c .before .before .ranks-of-pair .ensures)) _ (c .enum-told2 .given .1)
@@ -37,9 +28,9 @@ pub displacements-spec : {M : Type 1} → statement M
 displacements-spec =
     tie.close
     (tie.spec
-    ranks-of-pair-requires
-    enum-told
-    enum-told-2
+    (λ c κs. search needs)
+    (λ c. search needs)
+    (λ c. search needs)
     returns
     displacements-by-rank-requires
     returns-2)

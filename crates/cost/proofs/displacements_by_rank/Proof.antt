@@ -22,12 +22,6 @@ abbrev μ-loop : tie.MeasureT-loop
 loop-holds : tie.Need-loop-holds Inv-loop μ-loop
 loop-holds c = changed-none _ _
 
-element-copy-out-displacement : tie.Need-element-copy-out-displacement Inv-loop μ-loop
-element-copy-out-displacement c = search needs
-
-element-copy-out-displacement-2 : tie.Need-element-copy-out-displacement-2 Inv-loop μ-loop
-element-copy-out-displacement-2 c = search needs
-
 -- the two ranks that are read are low
 low : (c : tie.After-displacement-arg2 Inv-loop μ-loop) →
     let start = c .before .before .before .before in
@@ -40,15 +34,6 @@ low c =
 
 displacement-requires : tie.Need-displacement-requires Inv-loop μ-loop
 displacement-requires c κs = low c
-
-array-set-from-found : tie.Need-array-set-from-found Inv-loop μ-loop
-array-set-from-found c = search needs
-
-add-at : tie.Need-add-at Inv-loop μ-loop
-add-at c = search needs
-
-loop-less : tie.Need-loop-less Inv-loop μ-loop
-loop-less c = search needs
 
 loop-again : tie.Need-loop-again Inv-loop μ-loop
 loop-again c =
@@ -65,11 +50,11 @@ displacements-by-rank-spec =
     Inv-loop
     μ-loop
     loop-holds
-    element-copy-out-displacement
-    element-copy-out-displacement-2
+    (λ c. search needs)
+    (λ c. search needs)
     displacement-requires
-    array-set-from-found
-    add-at
-    loop-less
+    (λ c. search needs)
+    (λ c. search needs)
+    (λ c. search needs)
     loop-again
     returns)

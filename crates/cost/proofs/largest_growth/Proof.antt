@@ -18,26 +18,11 @@ abbrev μ-loop : tie.MeasureT-loop
 loop-holds : tie.Need-loop-holds Inv-loop μ-loop
 loop-holds c = grown-none _ _
 
-element-copy-out-before : tie.Need-element-copy-out-before Inv-loop μ-loop
-element-copy-out-before c = search needs
-
-element-copy-out-after : tie.Need-element-copy-out-after Inv-loop μ-loop
-element-copy-out-after c = search needs
-
 add-if1 : tie.Need-add-if1 Inv-loop μ-loop
 add-if1 c =
     let start = c .before .before in
     let i = c .before .loop .i in
     record { fits = omega (arith, rank-at (start .args .t1) i, start .pre .1 .low i, c .before .loop .inv .small) }
-
-sub-most : tie.Need-sub-most Inv-loop μ-loop
-sub-most c = search needs
-
-add-i : tie.Need-add-i Inv-loop μ-loop
-add-i c = search needs
-
-loop-less : tie.Need-loop-less Inv-loop μ-loop
-loop-less c = search needs
 
 loop-again : tie.Need-loop-again Inv-loop μ-loop
 loop-again c =
@@ -59,11 +44,11 @@ largest-growth-spec =
     Inv-loop
     μ-loop
     loop-holds
-    element-copy-out-before
-    element-copy-out-after
+    (λ c. search needs)
+    (λ c. search needs)
     add-if1
-    sub-most
-    add-i
-    loop-less
+    (λ c. search needs)
+    (λ c. search needs)
+    (λ c. search needs)
     loop-again
     returns)

@@ -4,11 +4,8 @@ use borrow.Author.Needs.{needs}
 use Rattle.cost.proofs.no_pair.Statement.{statement}
 use Rattle.cost.proofs.no_pair.Tie as tie
 
-zero-ranks-requires : tie.Need-zero-ranks-requires
-zero-ranks-requires c κs = search needs
-
 returns : tie.Need-returns
 returns c = rw (c .zero-ranks .ensures)
 
 pub no-pair-spec : {M : Type 1} → statement M
-no-pair-spec = tie.close (tie.spec zero-ranks-requires returns)
+no-pair-spec = tie.close (tie.spec (λ c κs. search needs) returns)

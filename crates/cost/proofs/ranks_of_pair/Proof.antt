@@ -13,18 +13,6 @@ use Rattle.cost.proofs.Pairs.{ranks-done, not-both}
 use Rattle.cost.proofs.ranks_of_pair.Statement.{statement}
 use Rattle.cost.proofs.ranks_of_pair.Tie as tie
 
-check-pair-requires : tie.Need-check-pair-requires
-check-pair-requires c κs = search needs
-
-enum-told : tie.Need-enum-told
-enum-told c = search needs
-
-enum-told-2 : tie.Need-enum-told-2
-enum-told-2 c = search needs
-
-no-pair-requires : tie.Need-no-pair-requires
-no-pair-requires c κs = search needs
-
 returns : tie.Need-returns
 unfolding ranksOfPair
 returns c =
@@ -49,32 +37,8 @@ second c =
     let a = c .before .before .before .before .before .before .before .args in
     ranks-done (a .v) _ (c .ranks-of2 .ensures) (passed-second (a .u) (a .v) (done (c .before .before .before .before)))
 
-ranks-of-requires : tie.Need-ranks-of-requires
-ranks-of-requires c κs = search needs
-
-enum-told-3 : tie.Need-enum-told-3
-enum-told-3 c = search needs
-
-enum-told-4 : tie.Need-enum-told-4
-enum-told-4 c = search needs
-
-no-pair-requires-2 : tie.Need-no-pair-requires-2
-no-pair-requires-2 c κs = search needs
-
 returns-2 : tie.Need-returns-2
 returns-2 c = absurd (not-both (first (c .before .before .before) .0) (c .before .enum-told4 .given .1))
-
-ranks-of-requires-2 : tie.Need-ranks-of-requires-2
-ranks-of-requires-2 c κs = search needs
-
-enum-told-5 : tie.Need-enum-told-5
-enum-told-5 c = search needs
-
-enum-told-6 : tie.Need-enum-told-6
-enum-told-6 c = search needs
-
-no-pair-requires-3 : tie.Need-no-pair-requires-3
-no-pair-requires-3 c κs = search needs
 
 returns-3 : tie.Need-returns-3
 returns-3 c = absurd (not-both (second (c .before .before .before) .0) (c .before .enum-told6 .given .1))
@@ -90,19 +54,19 @@ pub ranks-of-pair-spec : {M : Type 1} → statement M
 ranks-of-pair-spec =
     tie.close
     (tie.spec
-    check-pair-requires
-    enum-told
-    enum-told-2
-    no-pair-requires
+    (λ c κs. search needs)
+    (λ c. search needs)
+    (λ c. search needs)
+    (λ c κs. search needs)
     returns
-    ranks-of-requires
-    enum-told-3
-    enum-told-4
-    no-pair-requires-2
+    (λ c κs. search needs)
+    (λ c. search needs)
+    (λ c. search needs)
+    (λ c κs. search needs)
     returns-2
-    ranks-of-requires-2
-    enum-told-5
-    enum-told-6
-    no-pair-requires-3
+    (λ c κs. search needs)
+    (λ c. search needs)
+    (λ c. search needs)
+    (λ c κs. search needs)
     returns-3
     returns-4)

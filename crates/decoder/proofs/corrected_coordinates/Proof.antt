@@ -11,20 +11,11 @@ use Rattle.decoder.proofs.corrected_coordinates.Tie as tie
 size : (s : tie.Start) → s .args .t2 .len ≤ 12
 size s = passed (s .args .t2) (s .pre .0 .passed) .1
 
-sub-number : tie.Need-sub-number
-sub-number c = search needs
-
 element-copy-out-number : tie.Need-element-copy-out-number
 element-copy-out-number c = omega (arith, size c)
 
-number-requires : tie.Need-number-requires
-number-requires c κs = search needs
-
 element-copy-out-number-2 : tie.Need-element-copy-out-number-2
 element-copy-out-number-2 c = omega (arith, size (c .before .before))
-
-number-requires-2 : tie.Need-number-requires-2
-number-requires-2 c κs = search needs
 
 -- the two cells that are read
 pair : (c : tie.After-number2) →
@@ -74,11 +65,11 @@ pub corrected-coordinates-spec : {M : Type 1} → statement M
 corrected-coordinates-spec =
     tie.close
     (tie.spec
-    sub-number
+    (λ c. search needs)
     element-copy-out-number
-    number-requires
+    (λ c κs. search needs)
     element-copy-out-number-2
-    number-requires-2
+    (λ c κs. search needs)
     sub-next
     element-copy-out-next
     add-next

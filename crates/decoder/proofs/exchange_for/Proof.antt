@@ -23,20 +23,11 @@ size s = passed (s .args .t1) (s .pre .passed) .1
 loop-holds : tie.Need-loop-holds Inv-loop μ-loop
 loop-holds c = looking-none _ _ (c .pre) (search length-mapped)
 
-sub-number : tie.Need-sub-number Inv-loop μ-loop
-sub-number c = search needs
-
 element-copy-out-number : tie.Need-element-copy-out-number Inv-loop μ-loop
 element-copy-out-number c = omega (arith, size (c .before .before))
 
-number-requires : tie.Need-number-requires Inv-loop μ-loop
-number-requires c κs = search needs
-
 element-copy-out-number-2 : tie.Need-element-copy-out-number-2 Inv-loop μ-loop
 element-copy-out-number-2 c = omega (arith, size (c .before .before .before .before))
-
-number-requires-2 : tie.Need-number-requires-2 Inv-loop μ-loop
-number-requires-2 c κs = search needs
 
 -- the two cells that are read
 pair : (c : tie.After-number2 Inv-loop μ-loop) →
@@ -83,11 +74,11 @@ exchange-for-spec =
     Inv-loop
     μ-loop
     loop-holds
-    sub-number
+    (λ c. search needs)
     element-copy-out-number
-    number-requires
+    (λ c κs. search needs)
     element-copy-out-number-2
-    number-requires-2
+    (λ c κs. search needs)
     corrects-requires
     returns
     add-k

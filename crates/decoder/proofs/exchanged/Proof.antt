@@ -12,17 +12,11 @@ use Rattle.decoder.proofs.exchanged.Tie as tie
 size : (s : tie.Start) → s .args .t1 .len ≤ 12
 size s = passed (s .args .t1) (s .pre .passed) .1
 
-sub-above : tie.Need-sub-above
-sub-above c = search needs
-
 element-copy-out-above : tie.Need-element-copy-out-above
 element-copy-out-above c = omega (arith, size c)
 
 element-copy-out-below : tie.Need-element-copy-out-below
 element-copy-out-below c = omega (arith, size (c .before))
-
-sub-below : tie.Need-sub-below
-sub-below c = search needs
 
 element-set-from-below : tie.Need-element-set-from-below
 element-set-from-below c = omega (arith, size (c .before .before))
@@ -37,10 +31,10 @@ pub exchanged-spec : {M : Type 1} → statement M
 exchanged-spec =
     tie.close
     (tie.spec
-    sub-above
+    (λ c. search needs)
     element-copy-out-above
     element-copy-out-below
-    sub-below
+    (λ c. search needs)
     element-set-from-below
     element-set-from-above
     returns)

@@ -10,21 +10,12 @@ use Rattle.decoder.proofs.ZeroSyndrome.{same-number, coordinates-sized,
 use Rattle.decoder.proofs.is_codeword.Statement.{statement}
 use Rattle.decoder.proofs.is_codeword.Tie as tie
 
-coordinates-of-requires : tie.Need-coordinates-of-requires
-coordinates-of-requires c κs = search needs
-
-enum-known-outcome : tie.Need-enum-known-outcome
-enum-known-outcome c = search needs
-
 returns : tie.Need-returns
 unfolding isCodewordOf
 returns c =
     let a = c .before .before .before in
     let told = c .before .outcome .given in
     told-refused _ _ _ (told .0 .0) (sym (same-number _ (a .coordinates-of .result) (a .coordinates-of .ensures)) ∙ ap outcomeNumber (told .1))
-
-enum-told : tie.Need-enum-told
-enum-told c = search needs
 
 -- the order has passed its checks
 done : (c : tie.After-enum-told) → numberOf (orderChecks (c .before .before .before .args .o)) ≡ 0
@@ -44,9 +35,9 @@ pub is-codeword-spec : {M : Type 1} → statement M
 is-codeword-spec =
     tie.close
     (tie.spec
-    coordinates-of-requires
-    enum-known-outcome
+    (λ c κs. search needs)
+    (λ c. search needs)
     returns
-    enum-told
+    (λ c. search needs)
     syndrome-requires
     returns-2)

@@ -16,23 +16,11 @@ use Rattle.decoder.proofs.NearestWord.{nearest-refused, nearest-lost, n
 use Rattle.decoder.proofs.nearest.Statement.{statement}
 use Rattle.decoder.proofs.nearest.Tie as tie
 
-coordinates-of-requires : tie.Need-coordinates-of-requires
-coordinates-of-requires c κs = search needs
-
-enum-known-outcome : tie.Need-enum-known-outcome
-enum-known-outcome c = search needs
-
-no-word-requires : tie.Need-no-word-requires
-no-word-requires c κs = search needs
-
 returns : tie.Need-returns
 returns c =
     let told = c .before .before .outcome .given in
     let a = c .before .before .before .before .coordinates-of in
     c .no-word .ensures ∙ nearest-refused _ (told .0 .0) (sym (same-number _ (a .result) (a .ensures)) ∙ ap outcomeNumber (told .1))
-
-enum-told : tie.Need-enum-told
-enum-told c = search needs
 
 -- the order, that it has passed its checks, and its coordinates
 abbrev read : tie.After-enum-told → Order
@@ -64,9 +52,6 @@ returns-2 c =
 -- it is not
 exchange-for-requires : tie.Need-exchange-for-requires
 exchange-for-requires c κs = record { passed = done (c .before .before .before); syndrome = syndrome (c .before); wrong = omega arith }
-
-no-word-requires-2 : tie.Need-no-word-requires-2
-no-word-requires-2 c κs = search needs
 
 returns-3 : tie.Need-returns-3
 returns-3 c =
@@ -108,15 +93,15 @@ pub nearest-spec : {M : Type 1} → statement M
 nearest-spec =
     tie.close
     (tie.spec
-    coordinates-of-requires
-    enum-known-outcome
-    no-word-requires
+    (λ c κs. search needs)
+    (λ c. search needs)
+    (λ c κs. search needs)
     returns
-    enum-told
+    (λ c. search needs)
     syndrome-requires
     returns-2
     exchange-for-requires
-    no-word-requires-2
+    (λ c κs. search needs)
     returns-3
     cast-place
     exchanged-requires

@@ -4,14 +4,8 @@ use borrow.Author.Needs.{needs}
 use Rattle.decoder.proofs.no_word.Statement.{statement}
 use Rattle.decoder.proofs.no_word.Tie as tie
 
-zero-order-requires : tie.Need-zero-order-requires
-zero-order-requires c κs = search needs
-
-zero-coordinates-requires : tie.Need-zero-coordinates-requires
-zero-coordinates-requires c κs = search needs
-
 returns : tie.Need-returns
 returns c = rw (c .before .zero-order .ensures, c .zero-coordinates .ensures)
 
 pub no-word-spec : {M : Type 1} → statement M
-no-word-spec = tie.close (tie.spec zero-order-requires zero-coordinates-requires returns)
+no-word-spec = tie.close (tie.spec (λ c κs. search needs) (λ c κs. search needs) returns)

@@ -30,9 +30,6 @@ byte c =
     let f : Fits w8 (at (c .before .before .before .args .t1) (c .before .before .loop .i)) = search needs in
     omega arith
 
-cast-sum : tie.Need-cast-sum Inv-loop μ-loop
-cast-sum c = search needs
-
 mul-sum : tie.Need-mul-sum Inv-loop μ-loop
 mul-sum c = omega (arith, product-fits _ _ _ (c .before .before .loop .inv) (omega arith) (byte c))
 
@@ -69,7 +66,7 @@ syndrome-spec =
     loop-holds
     sub-sum
     element-copy-out-sum
-    cast-sum
+    (λ c. search needs)
     mul-sum
     add-sum
     add-i

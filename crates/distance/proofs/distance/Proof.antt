@@ -9,18 +9,9 @@ use Rattle.distance.proofs.Pair.{pair-listed, pair-told}
 use Rattle.distance.proofs.distance.Statement.{statement}
 use Rattle.distance.proofs.distance.Tie as tie
 
-check-pair-requires : tie.Need-check-pair-requires
-check-pair-requires c κs = search needs
-
-enum-known-outcome : tie.Need-enum-known-outcome
-enum-known-outcome c = search needs
-
 returns : tie.Need-returns
 unfolding distanceOf
 returns c = told-refused _ _ _ (c .before .outcome .given .0 .0) (sym (c .before .before .before .check-pair .ensures) ∙ ap outcomeNumber (c .before .outcome .given .1))
-
-enum-told : tie.Need-enum-told
-enum-told c = search needs
 
 distance-from-requires : tie.Need-distance-from-requires
 distance-from-requires c κs = pair-listed _ _ (accepted (c .before .before .check-pair .ensures) (c .enum-told .given .1))
@@ -32,9 +23,9 @@ pub distance-spec : {M : Type 1} → statement M
 distance-spec =
     tie.close
     (tie.spec
-    check-pair-requires
-    enum-known-outcome
+    (λ c κs. search needs)
+    (λ c. search needs)
     returns
-    enum-told
+    (λ c. search needs)
     distance-from-requires
     returns-2)

@@ -12,15 +12,6 @@ use Rattle.exports.proofs.rm_words.Tie as tie
 value-of : {a b : WordsAnswer} {t : Told ℕ} → a ≡ b → toldWords a ≡ t → toldWords b .value ≡ t .value
 value-of e h = ap (λ (t : Told ℕ). t .value) (sym (ap toldWords e) ∙ h)
 
-words-requires : tie.Need-words-requires
-words-requires c κs = search needs
-
-enum-known-answer : tie.Need-enum-known-answer
-enum-known-answer c = search needs
-
-enum-told : tie.Need-enum-told
-enum-told c = search needs
-
 returns : tie.Need-returns
 returns c = value-of (c .enum-told .given .1) (c .before .before .words .ensures)
 
@@ -28,4 +19,4 @@ returns-2 : tie.Need-returns-2
 returns-2 c = value-of (c .before .answer .given .1) (c .before .before .before .words .ensures)
 
 pub rm-words-spec : {M : Type 1} → statement M
-rm-words-spec = tie.close (tie.spec words-requires enum-known-answer enum-told returns returns-2)
+rm-words-spec = tie.close (tie.spec (λ c κs. search needs) (λ c. search needs) (λ c. search needs) returns returns-2)

@@ -10,15 +10,6 @@ use Rattle.lines.proofs.Decimal.{decimal-digit, short}
 use Rattle.lines.proofs.put_field.Statement.{statement}
 use Rattle.lines.proofs.put_field.Tie as tie
 
-mul-both : tie.Need-mul-both
-mul-both c = search needs
-
-add-both : tie.Need-add-both
-add-both c = search needs
-
-put-two-requires : tie.Need-put-two-requires
-put-two-requires c κs = search needs
-
 returns : tie.Need-returns
 returns c =
     let p = c .before .before in
@@ -37,9 +28,6 @@ put-after-requires c κs =
     let digits = short 9 (2 ^ 32) (c .before .before .before .fits .n .fits) tt in
     search needs
 
-same-length-2 : tie.Need-same-length-2
-same-length-2 c = search needs
-
 returns-2 : tie.Need-returns-2
 returns-2 c =
     let p = c .before .before .put-after .ensures in
@@ -47,4 +35,4 @@ returns-2 c =
     (p, omega (arith, digits, p .ends))
 
 pub put-field-spec : {M : Type 1} → statement M
-put-field-spec = tie.close (tie.spec mul-both add-both put-two-requires same-length returns put-after-requires same-length-2 returns-2)
+put-field-spec = tie.close (tie.spec (λ c. search needs) (λ c. search needs) (λ c κs. search needs) same-length returns put-after-requires (λ c. search needs) returns-2)

@@ -22,9 +22,6 @@ unfolding leftLine
 some zero h = absurd (h refl)
 some (suc k) h = refl
 
-add-if1 : tie.Need-add-if1
-add-if1 c = search needs
-
 returns : tie.Need-returns
 returns c = none-put _ _ _ _ (omega (arith, c .if1 .taken))
 
@@ -32,18 +29,6 @@ returns-2 : tie.Need-returns-2
 returns-2 c =
     let room = c .before .if1 .left in
     line-put _ _ _ _ (omega (arith, room)) (puts-as (none _ (c .if2 .taken)) (puts-none _ _ (omega (arith, room)))) (omega arith)
-
-put-byte-requires : tie.Need-put-byte-requires
-put-byte-requires c κs = search needs
-
-put-byte-requires-2 : tie.Need-put-byte-requires-2
-put-byte-requires-2 c κs = search needs
-
-put-byte-requires-3 : tie.Need-put-byte-requires-3
-put-byte-requires-3 c κs = search needs
-
-put-byte-requires-4 : tie.Need-put-byte-requires-4
-put-byte-requires-4 c κs = search needs
 
 put-after-requires : tie.Need-put-after-requires
 put-after-requires c κs =
@@ -68,9 +53,6 @@ put-byte-requires-5 c κs =
     let all = puts-join (puts-join (puts-join (puts-join (l .put-byte .ensures) (e .put-byte2 .ensures)) (f .put-byte3 .ensures)) (t .put-byte4 .ensures)) (a .put-after .ensures) in
     omega (arith, digits, s .before .if1 .left, all .ends, all .kept)
 
-same-length : tie.Need-same-length
-same-length c = search needs
-
 returns-3 : tie.Need-returns-3
 returns-3 c =
     let n = c .before .before in
@@ -92,14 +74,14 @@ pub put-left-spec : {M : Type 1} → statement M
 put-left-spec =
     tie.close
     (tie.spec
-    add-if1
+    (λ c. search needs)
     returns
     returns-2
-    put-byte-requires
-    put-byte-requires-2
-    put-byte-requires-3
-    put-byte-requires-4
+    (λ c κs. search needs)
+    (λ c κs. search needs)
+    (λ c κs. search needs)
+    (λ c κs. search needs)
     put-after-requires
     put-byte-requires-5
-    same-length
+    (λ c. search needs)
     returns-3)

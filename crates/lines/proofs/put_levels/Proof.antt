@@ -23,23 +23,11 @@ abbrev μ-loop : tie.MeasureT-loop
 twelve : (c : tie.Start Inv-loop μ-loop) → length (c .args .t4) ≡ 12
 twelve c = search needs
 
-put-byte-requires : tie.Need-put-byte-requires Inv-loop μ-loop
-put-byte-requires c κs = search needs
-
-same-length : tie.Need-same-length Inv-loop μ-loop
-same-length c = search needs
-
 returns : tie.Need-returns Inv-loop μ-loop
 returns c =
     let b = c .before .before in
     let none = b .before .before .if1 .taken in
     (rw none (b .put-byte .ensures), omega (arith, b .put-byte .ensures .ends))
-
-array-read-level-number : tie.Need-array-read-level-number Inv-loop μ-loop
-array-read-level-number c = search needs
-
-level-number-requires : tie.Need-level-number-requires Inv-loop μ-loop
-level-number-requires c κs = search needs
 
 put-number-requires : tie.Need-put-number-requires Inv-loop μ-loop
 put-number-requires c κs =
@@ -63,20 +51,11 @@ below c = ltb-true _ _ (c .if2 .taken)
 mul-level-number : tie.Need-mul-level-number Inv-loop μ-loop
 mul-level-number c = let low = below (c .before) in omega arith
 
-array-read-level-number-2 : tie.Need-array-read-level-number-2 Inv-loop μ-loop
-array-read-level-number-2 c = search needs
-
-level-number-requires-2 : tie.Need-level-number-requires-2 Inv-loop μ-loop
-level-number-requires-2 c κs = search needs
-
 put-after-requires : tie.Need-put-after-requires Inv-loop μ-loop
 put-after-requires c κs =
     let t = c .before .before in
     let digits = short 4 65536 (c .level-number2 .ensures .1) tt in
     omega (arith, digits, joining-room (t .before .before .loop .inv) (below t))
-
-add-i : tie.Need-add-i Inv-loop μ-loop
-add-i c = search needs
 
 loop-less : tie.Need-loop-less Inv-loop μ-loop
 loop-less c = let low = below (c .before .before .before .before .before) in omega arith
@@ -123,18 +102,18 @@ put-levels-spec =
     (tie.spec
     Inv-loop
     μ-loop
-    put-byte-requires
-    same-length
+    (λ c κs. search needs)
+    (λ c. search needs)
     returns
-    array-read-level-number
-    level-number-requires
+    (λ c. search needs)
+    (λ c κs. search needs)
     put-number-requires
     loop-holds
     mul-level-number
-    array-read-level-number-2
-    level-number-requires-2
+    (λ c. search needs)
+    (λ c κs. search needs)
     put-after-requires
-    add-i
+    (λ c. search needs)
     loop-less
     loop-again
     same-length-2

@@ -23,29 +23,8 @@ parts position kind number a e =
     ap (λ (t : List ℕ). t ++ 10 ∷ []) (append-assoc (numbersOf position kind number (a .symbol) (a .pulses)) (32 ∷ []) text)
     ∙ ap (λ (k : ℕ). numbersOf position kind k (a .symbol) (a .pulses) ++ 32 ∷ text ++ 10 ∷ []) e
 
-add-if1 : tie.Need-add-if1
-add-if1 c = search needs
-
 returns : tie.Need-returns
 returns c = none-put _ _ _ _ (omega (arith, c .if1 .taken))
-
-outcome-number-requires : tie.Need-outcome-number-requires
-outcome-number-requires c κs = search needs
-
-put-numbers-requires : tie.Need-put-numbers-requires
-put-numbers-requires c κs = search needs
-
-put-byte-requires : tie.Need-put-byte-requires
-put-byte-requires c κs = search needs
-
-put-levels-requires : tie.Need-put-levels-requires
-put-levels-requires c κs = search needs
-
-put-byte-requires-2 : tie.Need-put-byte-requires-2
-put-byte-requires-2 c κs = search needs
-
-same-length : tie.Need-same-length
-same-length c = search needs
 
 returns-2 : tie.Need-returns-2
 returns-2 c =
@@ -64,12 +43,12 @@ pub put-line-spec : {M : Type 1} → statement M
 put-line-spec =
     tie.close
     (tie.spec
-    add-if1
+    (λ c. search needs)
     returns
-    outcome-number-requires
-    put-numbers-requires
-    put-byte-requires
-    put-levels-requires
-    put-byte-requires-2
-    same-length
+    (λ c κs. search needs)
+    (λ c κs. search needs)
+    (λ c κs. search needs)
+    (λ c κs. search needs)
+    (λ c κs. search needs)
+    (λ c. search needs)
     returns-2)

@@ -9,18 +9,6 @@ use Rattle.lines.proofs.Paste.{puts-as}
 use Rattle.lines.proofs.put_pair.Statement.{statement}
 use Rattle.lines.proofs.put_pair.Tie as tie
 
-add-both : tie.Need-add-both
-add-both c = search needs
-
-mul-both : tie.Need-mul-both
-mul-both c = search needs
-
-add-both-2 : tie.Need-add-both-2
-add-both-2 c = search needs
-
-put-two-requires : tie.Need-put-two-requires
-put-two-requires c κs = search needs
-
 returns : tie.Need-returns
 returns c =
     let p = c .before .before in
@@ -31,4 +19,4 @@ same-length : tie.Need-same-length
 same-length c = returns c .kept
 
 pub put-pair-spec : {M : Type 1} → statement M
-put-pair-spec = tie.close (tie.spec add-both mul-both add-both-2 put-two-requires same-length returns)
+put-pair-spec = tie.close (tie.spec (λ c. search needs) (λ c. search needs) (λ c. search needs) (λ c κs. search needs) same-length returns)

@@ -8,15 +8,6 @@ use Rattle.lines.proofs.Decimal.{decimal-last-two, last-two-length}
 use Rattle.lines.proofs.put_short.Statement.{statement}
 use Rattle.lines.proofs.put_short.Tie as tie
 
-put-small-requires : tie.Need-put-small-requires
-put-small-requires c κs = search needs
-
-same-length : tie.Need-same-length
-same-length c = search needs
-
-returns : tie.Need-returns
-returns c = search needs
-
 put-small-requires-2 : tie.Need-put-small-requires-2
 put-small-requires-2 c κs =
     let l = c .before in
@@ -41,4 +32,4 @@ same-length-2 c = returns-2 c .kept
 
 pub put-short-spec : {M : Type 1} → statement M
 put-short-spec =
-    tie.close (tie.spec put-small-requires same-length returns put-small-requires-2 put-pair-requires same-length-2 returns-2)
+    tie.close (tie.spec (λ c κs. search needs) (λ c. search needs) (λ c. search needs) put-small-requires-2 put-pair-requires same-length-2 returns-2)

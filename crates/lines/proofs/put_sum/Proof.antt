@@ -12,20 +12,8 @@ use Rattle.lines.proofs.InRoom.{none-put, line-put}
 use Rattle.lines.proofs.put_sum.Statement.{statement}
 use Rattle.lines.proofs.put_sum.Tie as tie
 
-add-if1 : tie.Need-add-if1
-add-if1 c = search needs
-
 returns : tie.Need-returns
 returns c = none-put _ _ _ _ (omega (arith, c .if1 .taken))
-
-put-byte-requires : tie.Need-put-byte-requires
-put-byte-requires c κs = search needs
-
-put-byte-requires-2 : tie.Need-put-byte-requires-2
-put-byte-requires-2 c κs = search needs
-
-put-byte-requires-3 : tie.Need-put-byte-requires-3
-put-byte-requires-3 c κs = search needs
 
 put-after-requires : tie.Need-put-after-requires
 put-after-requires c κs =
@@ -68,10 +56,7 @@ returns-2 c =
     line-put _ _ _ _ (omega (arith, l .if1 .left)) (text-put _ all)
     (omega (arith, digits, e .put-byte4 .ensures .ends, a .put-after .ensures .ends, m .put-byte3 .ensures .ends, u .put-byte2 .ensures .ends, s .put-byte .ensures .ends))
 
-same-length : tie.Need-same-length
-same-length c = search needs
-
 pub put-sum-spec : {M : Type 1} → statement M
 put-sum-spec =
     tie.close
-    (tie.spec add-if1 returns put-byte-requires put-byte-requires-2 put-byte-requires-3 put-after-requires put-byte-requires-4 same-length returns-2)
+    (tie.spec (λ c. search needs) returns (λ c κs. search needs) (λ c κs. search needs) (λ c κs. search needs) put-after-requires put-byte-requires-4 (λ c. search needs) returns-2)

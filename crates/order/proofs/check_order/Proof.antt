@@ -9,18 +9,12 @@ use Rattle.order.proofs.Refusals.{check-fails, check-holds, all-hold}
 use Rattle.order.proofs.check_order.Statement.{statement}
 use Rattle.order.proofs.check_order.Tie as tie
 
-is-size-requires : tie.Need-is-size-requires
-is-size-requires c κs = search needs
-
 returns : tie.Need-returns
 returns c = sym (check-fails _ _ (sym (c .before .is-size .ensures) ∙ not-true _ (c .if1 .taken)))
 
 -- the size has passed
 sized : (c : tie.Else1) → isSize (c .before .before .args .o .len) ≡ true
 sized c = sym (c .before .is-size .ensures) ∙ not-false _ (c .if1 .left)
-
-is-order-requires : tie.Need-is-order-requires
-is-order-requires c κs = search needs
 
 returns-2 : tie.Need-returns-2
 returns-2 c = sym (check-holds _ _ (sized (c .before .before)) ∙ check-fails _ _ (sym (c .before .is-order .ensures) ∙ not-true _ (c .if2 .taken)))
@@ -31,4 +25,4 @@ returns-3 c =
 
 pub check-order-spec : {M : Type 1} → statement M
 check-order-spec =
-    tie.close (tie.spec is-size-requires returns is-order-requires returns-2 returns-3)
+    tie.close (tie.spec (λ c κs. search needs) returns (λ c κs. search needs) returns-2 returns-3)

@@ -9,20 +9,8 @@ use Rattle.order.proofs.Refusals.{accepted, check-fails, check-holds, a
 use Rattle.order.proofs.check_pair.Statement.{statement}
 use Rattle.order.proofs.check_pair.Tie as tie
 
-check-order-requires : tie.Need-check-order-requires
-check-order-requires c κs = search needs
-
-enum-told : tie.Need-enum-told
-enum-told c = search needs
-
-enum-told-2 : tie.Need-enum-told-2
-enum-told-2 c = search needs
-
 returns : tie.Need-returns
 returns c = outcome-first _ _ (c .before .before .check-order .ensures) (c .enum-told2 .given .1)
-
-is-order-requires : tie.Need-is-order-requires
-is-order-requires c κs = search needs
 
 -- the first order has passed
 first : (c : tie.After-is-order) → numberOf (orderChecks (c .before .before .before .before .args .u)) ≡ 0
@@ -39,10 +27,10 @@ pub check-pair-spec : {M : Type 1} → statement M
 check-pair-spec =
     tie.close
     (tie.spec
-    check-order-requires
-    enum-told
-    enum-told-2
+    (λ c κs. search needs)
+    (λ c. search needs)
+    (λ c. search needs)
     returns
-    is-order-requires
+    (λ c κs. search needs)
     returns-2
     returns-3)

@@ -30,28 +30,16 @@ small c = rw (place-at _ _) (padded-small _ _ _ (c .before .before .pre .1))
 loop-holds : tie.Need-loop-holds Inv-loop μ-loop
 loop-holds c = met-none _ (length-places _ (search length-mapped))
 
-element-copy-out-met : tie.Need-element-copy-out-met Inv-loop μ-loop
-element-copy-out-met c = search needs
-
 cast-met : tie.Need-cast-met Inv-loop μ-loop
 cast-met c = let l = small c in search needs
 
 shl-met : tie.Need-shl-met Inv-loop μ-loop
 shl-met c = omega (arith, small c)
 
-add-i : tie.Need-add-i Inv-loop μ-loop
-add-i c = search needs
-
-loop-less : tie.Need-loop-less Inv-loop μ-loop
-loop-less c = search needs
-
 loop-again : tie.Need-loop-again Inv-loop μ-loop
 loop-again c =
     let b = bit _ (small c) in
     met-more (c .before .loop .inv) (c .loop-test .taken) (place-at _ _) (small c) (omega (arith, b))
-
-cast-result : tie.Need-cast-result Inv-loop μ-loop
-cast-result c = search needs
 
 shl-result : tie.Need-shl-result Inv-loop μ-loop
 shl-result c = omega (arith, c .before .before .pre .0)
@@ -77,13 +65,13 @@ lists-each-once-spec =
     Inv-loop
     μ-loop
     loop-holds
-    element-copy-out-met
+    (λ c. search needs)
     cast-met
     shl-met
-    add-i
-    loop-less
+    (λ c. search needs)
+    (λ c. search needs)
     loop-again
-    cast-result
+    (λ c. search needs)
     shl-result
     sub-result
     returns)

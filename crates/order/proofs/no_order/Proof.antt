@@ -4,11 +4,8 @@ use borrow.Author.Needs.{needs}
 use Rattle.order.proofs.no_order.Statement.{statement}
 use Rattle.order.proofs.no_order.Tie as tie
 
-zero-order-requires : tie.Need-zero-order-requires
-zero-order-requires c κs = search needs
-
 returns : tie.Need-returns
 returns c = rw (c .zero-order .ensures)
 
 pub no-order-spec : {M : Type 1} → statement M
-no-order-spec = tie.close (tie.spec zero-order-requires returns)
+no-order-spec = tie.close (tie.spec (λ c κs. search needs) returns)

@@ -15,12 +15,6 @@ use Rattle.order.proofs.Records.{record-order}
 use Rattle.order.proofs.order_of.Statement.{statement}
 use Rattle.order.proofs.order_of.Tie as tie
 
-is-size-requires : tie.Need-is-size-requires
-is-size-requires c κs = search needs
-
-no-order-requires : tie.Need-no-order-requires
-no-order-requires c κs = search needs
-
 returns : tie.Need-returns
 unfolding orderOfCells
 returns c =
@@ -32,12 +26,6 @@ sized c = sym (c .before .is-size .ensures) ∙ not-false _ (c .if1 .left)
 
 order-with-requires : tie.Need-order-with-requires
 order-with-requires c κs = size-true _ (sized c) .1
-
-is-order-requires : tie.Need-is-order-requires
-is-order-requires c κs = search needs
-
-no-order-requires-2 : tie.Need-no-order-requires-2
-no-order-requires-2 c κs = search needs
 
 -- what was tested of the record is what is asked of the list
 tested : (c : tie.After-is-order) → let xs = now (c .before .before .before .before .before .args .cells) in c .is-order .result ≡ isOrder (length xs) xs
@@ -62,11 +50,11 @@ pub order-of-spec : {M : Type 1} → statement M
 order-of-spec =
     tie.close
     (tie.spec
-    is-size-requires
-    no-order-requires
+    (λ c κs. search needs)
+    (λ c κs. search needs)
     returns
     order-with-requires
-    is-order-requires
-    no-order-requires-2
+    (λ c κs. search needs)
+    (λ c κs. search needs)
     returns-2
     returns-3)

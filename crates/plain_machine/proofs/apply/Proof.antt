@@ -16,75 +16,6 @@ by-kind : (g : Group) (c : Call) (k : Kind) → c .kind ≡ k → applyBy g (c .
 unfolding applyOf
 by-kind g c k e = ap (applyBy g (c .target)) (sym e)
 
-enum-told : tie.Need-enum-told
-enum-told c = search needs
-
-write-requires : tie.Need-write-requires
-write-requires c κs = search needs
-
-from-written-requires : tie.Need-from-written-requires
-from-written-requires c κs = search needs
-
-enum-known-kind : tie.Need-enum-known-kind
-enum-known-kind c = search needs
-
-write-with-room-requires : tie.Need-write-with-room-requires
-write-with-room-requires c κs = search needs
-
-from-written-requires-2 : tie.Need-from-written-requires-2
-from-written-requires-2 c κs = search needs
-
-enum-known-kind-2 : tie.Need-enum-known-kind-2
-enum-known-kind-2 c = search needs
-
-store-requires : tie.Need-store-requires
-store-requires c κs = search needs
-
-from-written-requires-3 : tie.Need-from-written-requires-3
-from-written-requires-3 c κs = search needs
-
-enum-told-2 : tie.Need-enum-told-2
-enum-told-2 c = search needs
-
-scrub-requires : tie.Need-scrub-requires
-scrub-requires c κs = search needs
-
-enum-known-kind-3 : tie.Need-enum-known-kind-3
-enum-known-kind-3 c = search needs
-
-leak-requires : tie.Need-leak-requires
-leak-requires c κs = search needs
-
-from-changed-requires : tie.Need-from-changed-requires
-from-changed-requires c κs = search needs
-
-enum-known-kind-4 : tie.Need-enum-known-kind-4
-enum-known-kind-4 c = search needs
-
-wear-requires : tie.Need-wear-requires
-wear-requires c κs = search needs
-
-from-changed-requires-2 : tie.Need-from-changed-requires-2
-from-changed-requires-2 c κs = search needs
-
-enum-told-3 : tie.Need-enum-told-3
-enum-told-3 c = search needs
-
-erase-requires : tie.Need-erase-requires
-erase-requires c κs = search needs
-
-from-changed-requires-3 : tie.Need-from-changed-requires-3
-from-changed-requires-3 c κs = search needs
-
-enum-told-4 : tie.Need-enum-told-4
-enum-told-4 c = search needs
-
-read-requires : tie.Need-read-requires
-read-requires c κs = search needs
-
-from-read-requires : tie.Need-from-read-requires
-from-read-requires c κs = search needs
-
 returns : tie.Need-returns
 returns c =
     let w = c .before in
@@ -135,29 +66,29 @@ pub apply-spec : {M : Type 1} → statement M
 apply-spec =
     tie.close
     (tie.spec
-    enum-told
-    write-requires
-    from-written-requires
-    enum-known-kind
-    write-with-room-requires
-    from-written-requires-2
-    enum-known-kind-2
-    store-requires
-    from-written-requires-3
-    enum-told-2
-    scrub-requires
-    enum-known-kind-3
-    leak-requires
-    from-changed-requires
-    enum-known-kind-4
-    wear-requires
-    from-changed-requires-2
-    enum-told-3
-    erase-requires
-    from-changed-requires-3
-    enum-told-4
-    read-requires
-    from-read-requires
+    (λ c. search needs)
+    (λ c κs. search needs)
+    (λ c κs. search needs)
+    (λ c. search needs)
+    (λ c κs. search needs)
+    (λ c κs. search needs)
+    (λ c. search needs)
+    (λ c κs. search needs)
+    (λ c κs. search needs)
+    (λ c. search needs)
+    (λ c κs. search needs)
+    (λ c. search needs)
+    (λ c κs. search needs)
+    (λ c κs. search needs)
+    (λ c. search needs)
+    (λ c κs. search needs)
+    (λ c κs. search needs)
+    (λ c. search needs)
+    (λ c κs. search needs)
+    (λ c κs. search needs)
+    (λ c. search needs)
+    (λ c κs. search needs)
+    (λ c κs. search needs)
     returns
     returns-2
     returns-3

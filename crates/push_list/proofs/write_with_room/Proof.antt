@@ -17,18 +17,6 @@ use Rattle.push_list.proofs.Plans.{room-written}
 use Rattle.push_list.proofs.write_with_room.Statement.{statement}
 use Rattle.push_list.proofs.write_with_room.Tie as tie
 
-check-requires : tie.Need-check-requires
-check-requires c κs = search needs
-
-enum-told : tie.Need-enum-told
-enum-told c = search needs
-
-enum-told-2 : tie.Need-enum-told-2
-enum-told-2 c = search needs
-
-unwritten-requires : tie.Need-unwritten-requires
-unwritten-requires c κs = search needs
-
 returns : tie.Need-returns
 unfolding writeIntoOf
 returns c =
@@ -43,9 +31,6 @@ passed c = accepted (c .before .before .check .ensures) (c .enum-told .given .1)
 sub-if1 : tie.Need-sub-if1
 sub-if1 c = omega (arith, checked-size (c .before .before .before .before .args .g) (passed (c .before)))
 
-unwritten-requires-2 : tie.Need-unwritten-requires-2
-unwritten-requires-2 c κs = search needs
-
 -- the list is short
 room-short : (c : tie.Then1) → let a = c .before .before .before .before .before .args in leb (a .g .n - 1) (a .room) ≡ false
 room-short c = let a = c .before .before .before .before .before .args in lt-leb (a .g .n - 1) (a .room) (omega (arith, c .if1 .taken))
@@ -57,9 +42,6 @@ returns-2 c =
     let e = d .before .before in
     c .unwritten2 .ensures
     ∙ told-refused _ _ _ ListShort (later-decide _ (groupChecks (e .before .before .before .args .g)) (passed e) ∙ check-fails _ _ (room-short d))
-
-write-requires : tie.Need-write-requires
-write-requires c κs = search needs
 
 -- the list has room
 room-enough : (c : tie.Else1) → let a = c .before .before .before .before .before .args in leb (a .g .n - 1) (a .room) ≡ true
@@ -77,13 +59,13 @@ pub write-with-room-spec : {M : Type 1} → statement M
 write-with-room-spec =
     tie.close
     (tie.spec
-    check-requires
-    enum-told
-    enum-told-2
-    unwritten-requires
+    (λ c κs. search needs)
+    (λ c. search needs)
+    (λ c. search needs)
+    (λ c κs. search needs)
     returns
     sub-if1
-    unwritten-requires-2
+    (λ c κs. search needs)
     returns-2
-    write-requires
+    (λ c κs. search needs)
     returns-3)

@@ -22,24 +22,6 @@ abbrev μ-loop : tie.MeasureT-loop
 loop-holds : tie.Need-loop-holds Inv-loop μ-loop
 loop-holds c = placed-none cell _ _ (length-ranks _ (search length-mapped)) (c .pre)
 
-sub-rank : tie.Need-sub-rank Inv-loop μ-loop
-sub-rank c = search needs
-
-element-copy-out-rank : tie.Need-element-copy-out-rank Inv-loop μ-loop
-element-copy-out-rank c = search needs
-
-cast-t15 : tie.Need-cast-t15 Inv-loop μ-loop
-cast-t15 c = search needs
-
-with-cell-ranked-requires : tie.Need-with-cell-ranked-requires Inv-loop μ-loop
-with-cell-ranked-requires c κs = search needs
-
-sub-c : tie.Need-sub-c Inv-loop μ-loop
-sub-c c = search needs
-
-loop-less : tie.Need-loop-less Inv-loop μ-loop
-loop-less c = search needs
-
 -- the turn at the cell whose rank is read
 turn : (c : tie.In-loop Inv-loop μ-loop) →
     let at = c .before in
@@ -65,11 +47,11 @@ cells-by-sweep-spec =
     Inv-loop
     μ-loop
     loop-holds
-    sub-rank
-    element-copy-out-rank
-    cast-t15
-    with-cell-ranked-requires
-    sub-c
-    loop-less
+    (λ c. search needs)
+    (λ c. search needs)
+    (λ c. search needs)
+    (λ c κs. search needs)
+    (λ c. search needs)
+    (λ c. search needs)
     loop-again
     returns)

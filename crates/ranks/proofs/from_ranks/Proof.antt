@@ -16,12 +16,6 @@ use Rattle.ranks.proofs.Determine.{ranks-order}
 use Rattle.ranks.proofs.from_ranks.Statement.{statement}
 use Rattle.ranks.proofs.from_ranks.Tie as tie
 
-is-size-requires : tie.Need-is-size-requires
-is-size-requires c κs = search needs
-
-no-order-requires : tie.Need-no-order-requires
-no-order-requires c κs = search needs
-
 returns : tie.Need-returns
 unfolding orderOfRanks
 returns c =
@@ -34,16 +28,10 @@ sized c = sym (c .before .is-size .ensures) ∙ not-false _ (c .if1 .left)
 cells-by-sweep-requires : tie.Need-cells-by-sweep-requires
 cells-by-sweep-requires c κs = size-true _ (sized c) .1
 
-is-order-requires : tie.Need-is-order-requires
-is-order-requires c κs = search needs
-
 -- what was tested of the order is what is asked of the ranks
 tested : (c : tie.After-is-order) → let r = c .before .before .before .before .args .r in c .is-order .result ≡ isOrder (r .len) (ranked r)
 tested c =
     c .is-order .ensures ∙ ap (isOrderOf _) (c .before .cells-by-sweep .ensures) ∙ ranks-order _ (search length-mapped) (sized (c .before .before))
-
-no-order-requires-2 : tie.Need-no-order-requires-2
-no-order-requires-2 c κs = search needs
 
 returns-2 : tie.Need-returns-2
 unfolding orderOfRanks
@@ -58,9 +46,6 @@ ranks-are-clear-past-requires c κs = size-true _ (sized (c .before .before .bef
 -- the ranks are listed: the later places decide
 listed : (c : tie.Else2) → let r = c .before .before .before .before .before .args .r in isOrder (r .len) (ranked r) ≡ true
 listed c = sym (tested (c .before)) ∙ not-false _ (c .if2 .left)
-
-no-order-requires-3 : tie.Need-no-order-requires-3
-no-order-requires-3 c κs = search needs
 
 returns-3 : tie.Need-returns-3
 unfolding orderOfRanks
@@ -80,14 +65,14 @@ pub from-ranks-spec : {M : Type 1} → statement M
 from-ranks-spec =
     tie.close
     (tie.spec
-    is-size-requires
-    no-order-requires
+    (λ c κs. search needs)
+    (λ c κs. search needs)
     returns
     cells-by-sweep-requires
-    is-order-requires
-    no-order-requires-2
+    (λ c κs. search needs)
+    (λ c κs. search needs)
     returns-2
     ranks-are-clear-past-requires
-    no-order-requires-3
+    (λ c κs. search needs)
     returns-3
     returns-4)

@@ -18,17 +18,8 @@ abbrev μ-loop : tie.MeasureT-loop
 loop-holds : tie.Need-loop-holds Inv-loop μ-loop
 loop-holds c = clear-none _ _ (length-ranks _ (search length-mapped)) (c .pre)
 
-element-copy-out-if1 : tie.Need-element-copy-out-if1 Inv-loop μ-loop
-element-copy-out-if1 c = search needs
-
 returns : tie.Need-returns Inv-loop μ-loop
 returns c = clear-not (c .before .before .loop .inv) (omega arith) (rank-at _ _) (c .if1 .taken)
-
-add-i : tie.Need-add-i Inv-loop μ-loop
-add-i c = search needs
-
-loop-less : tie.Need-loop-less Inv-loop μ-loop
-loop-less c = search needs
 
 loop-again : tie.Need-loop-again Inv-loop μ-loop
 loop-again c = clear-more (c .before .before .loop .inv) (omega arith) (rank-at _ _) (c .if1 .left)
@@ -38,4 +29,4 @@ returns-2 c = clear-end (c .before .loop .inv) (omega arith)
 
 pub ranks-are-clear-past-spec : {M : Type 1} → statement M
 ranks-are-clear-past-spec =
-    tie.close (tie.spec Inv-loop μ-loop loop-holds element-copy-out-if1 returns add-i loop-less loop-again returns-2)
+    tie.close (tie.spec Inv-loop μ-loop loop-holds (λ c. search needs) returns (λ c. search needs) (λ c. search needs) loop-again returns-2)

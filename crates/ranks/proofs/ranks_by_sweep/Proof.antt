@@ -40,15 +40,6 @@ bounds c =
 loop-holds : tie.Need-loop-holds Inv-loop μ-loop
 loop-holds c = placed-none rank _ _ (length-places _ (search length-mapped)) (c .pre .0)
 
-sub-number : tie.Need-sub-number Inv-loop μ-loop
-sub-number c = search needs
-
-element-copy-out-number : tie.Need-element-copy-out-number Inv-loop μ-loop
-element-copy-out-number c = search needs
-
-number-requires : tie.Need-number-requires Inv-loop μ-loop
-number-requires c κs = search needs
-
 cast-t13 : tie.Need-cast-t13 Inv-loop μ-loop
 cast-t13 c = omega (arith, bounds c)
 
@@ -57,12 +48,6 @@ sub-ranks c = omega (arith, bounds c)
 
 array-set-from-ranks : tie.Need-array-set-from-ranks Inv-loop μ-loop
 array-set-from-ranks c = omega (arith, bounds c)
-
-sub-i : tie.Need-sub-i Inv-loop μ-loop
-sub-i c = search needs
-
-loop-less : tie.Need-loop-less Inv-loop μ-loop
-loop-less c = search needs
 
 loop-again : tie.Need-loop-again Inv-loop μ-loop
 loop-again c = placed-order rank (turn c) (order-true _ _ (c .before .before .before .before .pre .1)) (omega arith) (omega arith)
@@ -78,13 +63,13 @@ ranks-by-sweep-spec =
     Inv-loop
     μ-loop
     loop-holds
-    sub-number
-    element-copy-out-number
-    number-requires
+    (λ c. search needs)
+    (λ c. search needs)
+    (λ c κs. search needs)
     cast-t13
     sub-ranks
     array-set-from-ranks
-    sub-i
-    loop-less
+    (λ c. search needs)
+    (λ c. search needs)
     loop-again
     returns)

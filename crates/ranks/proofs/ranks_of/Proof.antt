@@ -7,18 +7,6 @@ use Rattle.ranks.specs.Ranks.{ranksOfOrder}
 use Rattle.ranks.proofs.ranks_of.Statement.{statement}
 use Rattle.ranks.proofs.ranks_of.Tie as tie
 
-check-order-requires : tie.Need-check-order-requires
-check-order-requires c κs = search needs
-
-enum-told : tie.Need-enum-told
-enum-told c = search needs
-
-enum-told-2 : tie.Need-enum-told-2
-enum-told-2 c = search needs
-
-zero-ranks-requires : tie.Need-zero-ranks-requires
-zero-ranks-requires c κs = search needs
-
 returns : tie.Need-returns
 unfolding ranksOfOrder
 returns c =
@@ -40,10 +28,10 @@ pub ranks-of-spec : {M : Type 1} → statement M
 ranks-of-spec =
     tie.close
     (tie.spec
-    check-order-requires
-    enum-told
-    enum-told-2
-    zero-ranks-requires
+    (λ c κs. search needs)
+    (λ c. search needs)
+    (λ c. search needs)
+    (λ c κs. search needs)
     returns
     ranks-by-sweep-requires
     returns-2)

@@ -12,9 +12,6 @@ use Rattle.ranks.specs.Steps.{withCell}
 use Rattle.ranks.proofs.with_cell_ranked.Statement.{statement}
 use Rattle.ranks.proofs.with_cell_ranked.Tie as tie
 
-number-requires : tie.Need-number-requires
-number-requires c κs = search needs
-
 returns : tie.Need-returns
 unfolding withCell
 returns c = rw (lt-ltb (c .before .before .args .rank .0) 1 (omega (arith, c .before .number .ensures)))
@@ -27,9 +24,6 @@ returns-2 c =
     let w : length (a .cells) ≡ 12 = search length-mapped in
     rw (le-ltb (a .rank .0) 1 (omega (arith, k))) (sym (set-out (a .cells) (a .rank .0 - 1) _ (omega (arith, k))))
 
-array-set-from-next : tie.Need-array-set-from-next
-array-set-from-next c = search needs
-
 returns-3 : tie.Need-returns-3
 unfolding withCell
 returns-3 c =
@@ -38,4 +32,4 @@ returns-3 c =
     rw (k, le-ltb (a .rank .0) 1 (omega (arith, k)))
 
 pub with-cell-ranked-spec : {M : Type 1} → statement M
-with-cell-ranked-spec = tie.close (tie.spec number-requires returns returns-2 array-set-from-next returns-3)
+with-cell-ranked-spec = tie.close (tie.spec (λ c κs. search needs) returns returns-2 (λ c. search needs) returns-3)

@@ -8,12 +8,6 @@ use Rattle.records.specs.Records.{afterApply}
 use Rattle.records.proofs.apply.Statement.{statement}
 use Rattle.records.proofs.apply.Tie as tie
 
-zero-order-requires : tie.Need-zero-order-requires
-zero-order-requires c κs = search needs
-
-apply-requires : tie.Need-apply-requires
-apply-requires c κs = search needs
-
 returns : tie.Need-returns
 returns c =
     let m = c .before in
@@ -23,4 +17,4 @@ returns c =
     ∙ ap (λ (o : Order). afterApply (applyOf (args .g) (record { kind = args .kind; target = o }))) (z .zero-order .ensures)
 
 pub apply-spec : {M : Type 1} → statement M
-apply-spec = tie.close (tie.spec zero-order-requires apply-requires returns)
+apply-spec = tie.close (tie.spec (λ c κs. search needs) (λ c κs. search needs) returns)

@@ -24,25 +24,10 @@ module _ (g : Group) (a : Changed) (t : Told Group) (e : toldChanged a ≡ t) wh
       rw d (ap (λ (h : Group). record { number = refusalNumber r; value = groupAlone h }) (sym (refused-zeros {A = Group} r (a .group) g)))
       ∙ ap (afterOpen g) e
 
-open-requires : tie.Need-open-requires
-open-requires c κs = search needs
-
-enum-told : tie.Need-enum-told
-enum-told c = search needs
-
-alone-requires : tie.Need-alone-requires
-alone-requires c κs = search needs
-
 returns : tie.Need-returns
 returns c =
     let k = c .before in
     c .alone .ensures ∙ taken _ _ _ (k .before .before .before .«open» .ensures) (k .enum-told .given .1)
-
-enum-told-2 : tie.Need-enum-told-2
-enum-told-2 c = search needs
-
-alone-requires-2 : tie.Need-alone-requires-2
-alone-requires-2 c κs = search needs
 
 returns-2 : tie.Need-returns-2
 returns-2 c =
@@ -51,4 +36,4 @@ returns-2 c =
     c .alone2 .ensures ∙ kept _ _ _ (k .before .before .before .«open» .ensures) (told .0 .0) (told .1)
 
 pub open-spec : {M : Type 1} → statement M
-open-spec = tie.close (tie.spec open-requires enum-told alone-requires returns enum-told-2 alone-requires-2 returns-2)
+open-spec = tie.close (tie.spec (λ c κs. search needs) (λ c. search needs) (λ c κs. search needs) returns (λ c. search needs) (λ c κs. search needs) returns-2)

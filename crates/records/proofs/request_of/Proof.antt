@@ -18,9 +18,6 @@ by-kind : (r : CallRecord) (k : ℕ) → unusedZero r ≡ true → r .kind ≡ k
 unfolding requestOf
 by-kind r k z e = rw (z, e) refl
 
-unused-zero-requires : tie.Need-unused-zero-requires
-unused-zero-requires c κs = search needs
-
 returns : tie.Need-returns
 unfolding requestOf
 returns c = rw (sym (c .before .unused-zero .ensures) ∙ not-true _ (c .if1 .taken)) refl
@@ -62,4 +59,4 @@ returns-9 c =
 pub request-of-spec : {M : Type 1} → statement M
 request-of-spec =
     tie.close
-    (tie.spec unused-zero-requires returns returns-2 returns-3 returns-4 returns-5 returns-6 returns-7 returns-8 returns-9)
+    (tie.spec (λ c κs. search needs) returns returns-2 returns-3 returns-4 returns-5 returns-6 returns-7 returns-8 returns-9)

@@ -11,9 +11,6 @@ use Rattle.records.proofs.unused_zero.Tie as tie
 returns : tie.Need-returns
 returns c = let r = c .before .before .args .r in reserved-filled r (ne-eqb (r .reserved) 0 (c .if1 .taken))
 
-uses-cell-requires : tie.Need-uses-cell-requires
-uses-cell-requires c κs = search needs
-
 returns-2 : tie.Need-returns-2
 returns-2 c =
     let u = c .before in
@@ -44,4 +41,4 @@ returns-5 c =
     (lt-leb _ _ (l .if4 .left))
 
 pub unused-zero-spec : {M : Type 1} → statement M
-unused-zero-spec = tie.close (tie.spec returns uses-cell-requires returns-2 returns-3 returns-4 returns-5)
+unused-zero-spec = tie.close (tie.spec returns (λ c κs. search needs) returns-2 returns-3 returns-4 returns-5)

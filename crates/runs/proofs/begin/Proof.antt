@@ -6,11 +6,8 @@ use Rattle.group.specs.declared.Group.{Group}
 use Rattle.runs.proofs.begin.Statement.{statement}
 use Rattle.runs.proofs.begin.Tie as tie
 
-zero-group-requires : tie.Need-zero-group-requires
-zero-group-requires c κs = search needs
-
 returns : tie.Need-returns
 returns c = ap (λ (g : Group). record { position = 0; group = g; pulses = 0 }) (c .zero-group .ensures)
 
 pub begin-spec : {M : Type 1} → statement M
-begin-spec = tie.close (tie.spec zero-group-requires returns)
+begin-spec = tie.close (tie.spec (λ c κs. search needs) returns)

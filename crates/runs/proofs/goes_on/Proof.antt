@@ -7,9 +7,6 @@ use borrow.Author.Tests.{eq-eqb, ne-eqb}
 use Rattle.runs.proofs.goes_on.Statement.{statement}
 use Rattle.runs.proofs.goes_on.Tie as tie
 
-takes-requires : tie.Need-takes-requires
-takes-requires c κs = search needs
-
 returns : tie.Need-returns
 returns c =
     let t = c .before in
@@ -19,4 +16,4 @@ returns-2 : tie.Need-returns-2
 returns-2 c = rw (ne-eqb (c .before .args .size % 8) 0 (c .if1 .left))
 
 pub goes-on-spec : {M : Type 1} → statement M
-goes-on-spec = tie.close (tie.spec takes-requires returns returns-2)
+goes-on-spec = tie.close (tie.spec (λ c κs. search needs) returns returns-2)

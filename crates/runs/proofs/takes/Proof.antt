@@ -16,25 +16,13 @@ returns c =
     let long : 65536 < 8 * args .position + args .size = omega (arith, c .if1 .taken) in
     rw (lt-leb (8 * args .position + args .size) 65536 long) refl
 
-mul-if2 : tie.Need-mul-if2
-mul-if2 c = search needs
-
-add-if2 : tie.Need-add-if2
-add-if2 c = search needs
-
 returns-2 : tie.Need-returns-2
 returns-2 c = let args = c .before .before .args in rw (lt-leb (8 * args .position + args .size) 65536 (omega (arith, c .if2 .taken))) refl
-
-mul-if3 : tie.Need-mul-if3
-mul-if3 c = search needs
 
 returns-3 : tie.Need-returns-3
 returns-3 c =
     let args = c .before .before .before .args in
     rw (le-leb (8 * args .position + args .size) 65536 (omega (arith, c .before .if2 .left)), lt-leb (args .pulses) (4294967295 * args .position) (c .if3 .taken)) refl
-
-room-for-requires : tie.Need-room-for-requires
-room-for-requires c κs = search needs
 
 returns-4 : tie.Need-returns-4
 returns-4 c =
@@ -45,4 +33,4 @@ returns-4 c =
     (ap (λ (k : ℕ). leb k (args .space)) same)
 
 pub takes-spec : {M : Type 1} → statement M
-takes-spec = tie.close (tie.spec returns mul-if2 add-if2 returns-2 mul-if3 returns-3 room-for-requires returns-4)
+takes-spec = tie.close (tie.spec returns (λ c. search needs) (λ c. search needs) returns-2 (λ c. search needs) returns-3 (λ c κs. search needs) returns-4)

@@ -14,8 +14,5 @@ mul-result c =
     let product : (c .args .x) * (c .args .y) ≤ 255 * 255 = mul-le-mul x y in
     record { fits = omega arith }
 
-returns : tie.Need-returns
-returns c = search needs
-
 pub product-spec : {M : Type 1} → statement M
-product-spec = tie.close (tie.spec mul-result returns)
+product-spec = tie.close (tie.spec mul-result (λ c. search needs))
