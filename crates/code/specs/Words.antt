@@ -11,7 +11,7 @@
 --   K n                 the number of codewords
 --   wordAt n s          the codeword of number s: codewords are numbered from 0 by their place
 --   wordNumber n x      the number of a codeword; K n of a list that is none
---   symbolOf n u        the number of a codeword, as an order
+--   symbolOf n u        the number of a codeword that is given as an order; K n of an order that is none
 --   Earlier x y         x stands before y in a dictionary: it has less at the first place where they differ. For the law of the numbering
 use mathlib.Core.Bool.{Bool, true, false, cond, _&&_}
 use mathlib.Core.List.{List, [], _∷_, _++_, map}

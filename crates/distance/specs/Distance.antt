@@ -5,6 +5,7 @@
 --                     this order counts where v lists y before x
 --   exchange k u      the neighbour exchange at place k: the cells of ranks k and k + 1 change places; at a place outside 1 to n - 1
 --                     nothing changes
+--   exchangeFirst u, exchangePast k u    the first two cells exchanged; past k cells, the next two
 --   exchanges ks u    the exchanges at each place of a list, one after the other
 --   toldDistance a    what an answer says: its number, and the distance
 --   distanceOf u v    the answer to `distance`

@@ -72,7 +72,7 @@ scrubChecks g = readChecks g ++ pushChecks g (wordFound g)
 unfoldable pub scrubOf : Group → Told Step
 scrubOf g = answer (scrubChecks g) (programmedStep (pushed g (wordFound g)) (readingOf g .symbol) (readingOf g .verdict)) (quiet g)
 
--- ---- the seven calls
+-- ---- a read, as an answer of the machine
 
 abbrev pub afterRead : Group → Told Reading → Told Step
 afterRead g t =

@@ -1,7 +1,8 @@
 // The lines of text that the program `rmcalls` prints (document 01, "Calls outside the list"), put into a lent buffer: `put_line` for a record's
 // line, `put_left` for leftover bytes, `put_sum` for all pulses. Every public function takes any buffer, any place in it and any numbers, and answers
-// the place after the line, with one equation for this answer and one for the buffer. Where the longest line of its kind has no room, the buffer
-// stays as it was and the answer is the place handed in. That place has 32 bits, so that one comparison of 64 bits tells the room.
+// the place after the line, with one equation for this answer and one for the buffer; that the answer is within the room of the line follows. Where
+// there is not the room that every line of its kind fits into, the buffer stays as it was and the answer is the place handed in. That place has 32
+// bits, so that one comparison of 64 bits tells the room.
 use records::Answered;
 ghost use mathlib.Core.Path.{_≡_};
 ghost use mathlib.Core.List.{[], _∷_, _++_};
@@ -11,7 +12,7 @@ ghost use Rattle.records.specs.Records.{toldAnswered};
 ghost use Rattle.lines.specs.Line.{decimal, after, levelText, numbersOf, lineOf, leftLine, sumLine, pasted, inRoom};
 ghost use Rattle.lines.specs.Puts.{Puts, pair};
 
-// The room of the longest line of each kind.
+// A room that every line of its kind fits into.
 const LINE_ROOM: usize = 128;
 
 const LEFT_ROOM: usize = 26;

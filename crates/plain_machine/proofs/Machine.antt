@@ -31,7 +31,7 @@ use Rattle.group.specs.Changes.{cellChecks, wearChecks, leakOf, wearOf, eraseOf
 use Rattle.group.proofs.Levels.{at-most-refl, at-most-true, rises-down, leaked-below}
 use Rattle.group.proofs.Groups.{by-number, IsGroup, leak-group, wear-group, erase-group}
 use Rattle.writing.proofs.Writes.{push-held, pushes-few, write-group, raised-shows}
-use Rattle.push_list.specs.LentWrite.{intoChecks, writeIntoOf}
+use Rattle.push_list.specs.LentWrite.{intoChecks, writeIntoOf, carriedOf}
 use Rattle.push_list.proofs.Written.{into-group}
 use Rattle.sensing.proofs.Sensed.{sensed-order}
 use Rattle.plain_machine.specs.declared.Kind.{Kind}
@@ -104,6 +104,13 @@ apply-by g o Read = after-read (readChecks g) g _
 pub apply-number : (g : Group) (c : Call) → applyOf g c .number ≡ numberOf (checks g c)
 unfolding applyOf answer
 apply-number g c = ap (λ (t : Told Step). t .number) (apply-by g (c .target) (c .kind))
+
+-- a write into a lent list of so many places, and the machine's answer to it: number, group, pulses and how many pushes are the same
+pub into-applied : (g : Group) (o : Order) (room : ℕ)
+    → let t = applyOf g (record { kind = WriteInto room; target = o }) in
+    carriedOf (writeIntoOf g o room) ≡ record { number = t .number; value = record { group = t .value .group; pulses = t .value .pulses; count = t .value .count } }
+unfolding applyOf
+into-applied g o room = refl
 
 pub apply-value : (g : Group) (c : Call) → applyOf g c .value ≡ ifDone (numberOf (checks g c)) (accept g c) (quiet g)
 unfolding applyOf answer

@@ -1,11 +1,14 @@
--- Document 01, "The plain machine": the seven calls of demand 3 as one machine. A write has two forms: its pushes come back by value, or go into a
--- lent list, of which the machine knows the room.
+-- Document 01, "The plain machine": the seven calls of demand 3 as one machine. A write has two forms. One into a lent list is answered by the room of
+-- the list, that is, how many places it has; its pushes come by value here too, and `push_list::write_into` puts them into the list.
 --
 --   writes k            the calls that raise cells: write, store and scrub
 --   target g c          the order that such a call is to show; another call has the empty target
 --   earlierChecks g c   the checks of a call that run before 8, in the order in which they run
 --   checks g c          all of them: a write, a store or a scrub is checked for 8 last
 --   applyOf g c         the answer to `apply`: one call of the plain machine
+--   targetBy, earlierBy, checksBy, applyBy    the same by the order beside the call and its kind
+--   afterProgram t s    the machine's answer to a write, or to a store of the symbol s
+--   afterChange t       the machine's answer to leak, wear or erase
 use Prim.Native.Nat.{ℕ, _-_}
 use mathlib.Core.Bool.{Bool, true, false, cond}
 use mathlib.Core.List.{List, [], _∷_, _++_}

@@ -15,8 +15,8 @@ ghost use Rattle.writing.specs.WriteAnswer.{toldWritten};
 ghost use Rattle.engine.specs.Scrub.{toldApplied};
 ghost use Rattle.plain_machine.specs.Machine.{afterProgram, afterChange, applyOf};
 
-// One of the seven calls of demand 3, with its numbers. The order of a write stands beside it in the call; a write whose pushes go into a lent
-// list has the room of the list, that is, how many places it has.
+// One of the seven calls of demand 3, with its numbers. The order of a write stands beside it in the call. A write into a lent list has the room of
+// the list, that is, how many places it has; `push_list::write_into` puts the pushes there, and here they come by value too.
 pub enum Kind {
     Write,
     WriteInto(usize),

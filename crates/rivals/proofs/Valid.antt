@@ -1,5 +1,5 @@
 -- Demand 3 speaks of something: from an opened group no list of calls meets the numbers 1 and 2; for every n from 3 to 12 a first write is
--- done, whatever its order (into a lent list where that has n - 1 places, and is refused 10 where it has fewer), and a first store, whatever its
+-- done, whatever its order (into a lent list where that has n - 1 places or more, and is refused 10 where it has fewer), and a first store, whatever its
 -- symbol (there is one: `some-symbol`), and a scrub that comes next; and worn is given too.
 -- Assumes nothing.
 use Prim.Native.Nat.{ℕ, zero, suc, _-_, _<_, _≤_}
@@ -128,7 +128,7 @@ module _ (n : ℕ) (size : isSize n ≡ true) where
       apply-number (opened n) (writing o)
       ∙ done-pushes (opened n) (writing o) refl (one-check _ _ t) (opened-passes n size (listed o) (order-parts n o t .1 .order))
 
-  -- into a lent list too, and 10 is given exactly where it has fewer than n - 1 places
+  -- into a lent list of n - 1 places or more too; 10 is given where it has fewer, whatever the order
   pub first-into : (o : Order) → isOrderOf n o ≡ true → (room : ℕ) → n - 1 ≤ room → applyOf (opened n) (writing-into o room) .number ≡ 0
   first-into o t room l =
       apply-number (opened n) (writing-into o room)

@@ -2,8 +2,9 @@
 -- The claim is about any machine that answers calls. That ours meets it is the theorem `demand3-open` (proofs/Demand3) about `applyOf`, which is
 -- the whole answer of the public function `apply` by its contract. Of a machine's answers it speaks of the number, the pulses and the group:
 -- of its levels and caps beside the rivals', and of the whole record in the checks of the call that comes next. The symbol, the verdict and
--- the pushes are fixed by the contracts alone. A list of calls may hold writes into a lent list, of which a call has the room: `writeIntoOf` is both
--- the answer of the machine to such a call and, by its contract, that of `push_list::write_into`. The lent list is no part of a rival.
+-- the pushes are fixed by the contracts alone. A list of calls may hold writes into a lent list, of which a call has the room: both the machine's
+-- answer to such a call and, by its contract, that of `push_list::write_into` are made of `writeIntoOf`, and are the same in what the claim speaks of
+-- (`into-applied`, plain_machine, proofs/Machine). The lent list is no part of a rival.
 --
 --   Rival               a rival at one moment: levels and caps, as a group has them, and its pulses
 --   standing g q        our group, with q pulses so far, as a rival stands
