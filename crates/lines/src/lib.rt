@@ -39,11 +39,12 @@ pub fn put_line(out: &mut [u8], from: u32, position: u32, kind: u8, a: Answered)
     ensures { λ r. ⌜ r ≤ from + 128 ⌝ }
 {
     let at = from as usize;
+    let outcome = a.outcome;
+    // before the test of the room: the other way round costs an instruction more
+    let number = order::outcome_number(outcome);
     if out.len() < at + LINE_ROOM {
         return at;
     }
-    let outcome = a.outcome;
-    let number = order::outcome_number(outcome);
     let group = a.group;
     let levels = group.levels;
     let mut end = put_numbers(out, at, position, kind, number, a.symbol, a.pulses);

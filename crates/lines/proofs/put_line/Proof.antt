@@ -32,20 +32,21 @@ returns-2 c =
     let l = e .before .before .before .before in
     let b = l .before .before .before .before in
     let n = b .before .before .before .before in
-    let o = n .before .before .before .before in
+    let r = n .before .before .before .before in
+    let o = r .before in
     let all = puts-join (puts-join (puts-join (n .put-numbers .ensures .0) (b .put-byte .ensures)) (l .put-levels .ensures .0)) (e .put-byte2 .ensures) in
     line-put _ _ _ _
-    (omega (arith, o .before .if1 .left))
-    (puts-as (parts _ _ _ (o .before .before .before .args .a) (o .outcome-number .ensures)) all)
+    (omega (arith, r .if1 .left))
+    (puts-as (parts _ _ _ (o .before .before .args .a) (o .outcome-number .ensures)) all)
     (omega (arith, n .put-numbers .ensures .1, b .put-byte .ensures .ends, l .put-levels .ensures .1, e .put-byte2 .ensures .ends))
 
 pub put-line-spec : {M : Type 1} → statement M
 put-line-spec =
     tie.close
     (tie.spec
+    (λ c κs. search needs)
     (λ c. search needs)
     returns
-    (λ c κs. search needs)
     (λ c κs. search needs)
     (λ c κs. search needs)
     (λ c κs. search needs)
