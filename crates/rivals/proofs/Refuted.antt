@@ -1,5 +1,6 @@
--- Wrong machines that demand 3 shuts out. Each is caught on a group of three cells, just opened, by the order [1, 2, 3] (one by [1, 3, 2] after it):
--- the plain machine goes to levels 2, 1, 0 for 3 pulses, and that course is one of the rivals of every machine that accepts that write.
+-- Wrong machines that demand 3 shuts out. Each is caught on a group of three cells, just opened, by the order [1, 2, 3] (one by [1, 3, 2] after it; one
+-- by [1, 2, 3] into a list of one place, which the plain machine refuses 10). At a write of [1, 2, 3] by value the plain machine goes to levels 2, 1, 0
+-- for 3 pulses, and that course is one of the rivals of every machine that accepts that write.
 -- Assumes nothing.
 use Prim.Native.Nat.{ℕ, suc, _+_, _<_}
 use mathlib.Core.Path.{_≡_, refl}
