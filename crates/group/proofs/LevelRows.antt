@@ -7,13 +7,14 @@ use mathlib.Core.Logic.{⊎-elim}
 use mathlib.Core.List.{List, [], _∷_, _++_}
 use native.Mathlib.Nat.{sub-zero, zero-sub, suc-sub-suc, le-refl, le-trans}
 use native.Mathlib.Omega.{arith}
-use lib.Bits.{bitOr, and-le-l, and-le-r, or-lt, or-add-and}
+use lib.Bits.{bitAnd, bitOr}
 use lib.Dec.{leb, ltb}
 use lib.ListN.{length, getD, drop, replicate, length-replicate, getD-replicate, List·getD-append}
 use lib.Seq.{drop-at, getD-append-add}
-use borrow.Author.Tests.{leb-true, leb-false, le-leb, lt-leb}
+use borrow.Author.Tests.{leb-true, le-leb, lt-leb}
 use Rattle.order.proofs.Cells.{both, lt-cases}
 use Rattle.order.proofs.Numbers.{drop-up}
+use Rattle.order.proofs.Bits.{or-at-most, gather}
 use Rattle.group.specs.Levels.{AtMost, empty, more, atMost}
 use Rattle.group.specs.Record.{allAtMost, isRow}
 
@@ -78,18 +79,6 @@ all-append m (suc k) v ys h e = rw (le-leb v m h) (all-append m k v ys h e)
 abbrev pub limit : ℕ → ℕ → ℕ → ℕ
 limit m n i = cond (ltb i n) m 0
 
--- a row of limits from place 12 - n on
-pub limit-at : (m n i : ℕ) → n ≤ 12 → i < 12 → getD (replicate 12 m ++ replicate 12 0) (12 - n + i) 0 ≡ limit m n i
-limit-at m n i l h =
-    let full : List ℕ = replicate 12 m in
-    let clear : List ℕ = replicate 12 0 in
-    ⊎-elim
-    (λ t. rw (t .1) (List·getD-append full clear 0 (12 - n + i) (omega arith) ∙ getD-replicate 12 (12 - n + i) m 0 (omega arith)))
-    (λ t.
-    let e : 12 - n + i ≡ 12 + (i - n) = omega arith in
-    rw (t .1, e) (getD-append-add full clear (i - n) 0 ∙ getD-replicate 12 (i - n) 0 0 (omega arith)))
-    (lt-cases i n)
-
 regroup : (p q r s : Bool) → ((p && q) && (r && s)) ≡ ((p && r) && (q && s))
 regroup false q r s = refl
 regroup true q true s = refl
@@ -118,15 +107,6 @@ row-step m n i xs inside =
     rw (t .1, drop-up xs i inside, e, f) (first-past m _ _))
     (lt-cases i n)
 
--- a limit is one less than a power of two, so that two numbers are at most it where their `|` is
-or-at-most : (k m a b : ℕ) → m + 1 ≡ 2 ^ k → leb (bitOr a b) m ≡ (leb a m && leb b m)
-or-at-most k m a b e = go (leb a m) refl (leb b m) refl
-  where
-    go : (p : Bool) → leb a m ≡ p → (q : Bool) → leb b m ≡ q → leb (bitOr a b) m ≡ (p && q)
-    go true f true g = le-leb (bitOr a b) m (omega (arith, e, or-lt k a b (omega (arith, e, leb-true a m f)) (omega (arith, e, leb-true b m g))))
-    go true f false g = lt-leb (bitOr a b) m (omega (arith, leb-false b m g, or-add-and a b, and-le-l a b))
-    go false f q g = lt-leb (bitOr a b) m (omega (arith, leb-false a m f, or-add-and a b, and-le-r a b))
-
 -- the places from i on of both rows
 abbrev pub rowsFrom : ℕ → ℕ → ℕ → List ℕ → List ℕ → Bool
 rowsFrom m n i ls cs = isRow m (n - i) (drop i ls) && isRow m (n - i) (drop i cs)
@@ -147,6 +127,37 @@ rows-step k m n i ls cs e l c =
     together : (b : Bool) → leb (bitOr x y) (cond b m 0) ≡ (leb x (cond b m 0) && leb y (cond b m 0))
     together true = or-at-most k m x y e
     together false = or-at-most 0 0 x y refl
+
+-- ---- the bits that must be 0, from place 12 - n on: the highest four of sixteen up to n places, and all beyond
+
+abbrev pub spares : List ℕ
+spares = replicate 12 61440 ++ replicate 12 65535
+
+spare-at : (n i : ℕ) → n ≤ 12 → i < 12 → getD spares (12 - n + i) 0 ≡ cond (ltb i n) 61440 65535
+spare-at n i l h =
+    let above : List ℕ = replicate 12 61440 in
+    let all : List ℕ = replicate 12 65535 in
+    ⊎-elim
+    (λ t. rw (t .1) (List·getD-append above all 0 (12 - n + i) (omega arith) ∙ getD-replicate 12 (12 - n + i) 61440 0 (omega arith)))
+    (λ t.
+    let e : 12 - n + i ≡ 12 + (i - n) = omega arith in
+    rw (t .1, e) (getD-append-add above all (i - n) 0 ∙ getD-replicate 12 (i - n) 65535 0 (omega arith)))
+    (lt-cases i n)
+
+-- `over` gathers them: place i is tested
+pub rows-gathered : (n i over : ℕ) (ls cs : List ℕ) → n ≤ 12 → i < 12 → i < length ls → i < length cs → bitOr (getD ls i 0) (getD cs i 0) < 65536
+    → (leb (bitOr over (bitAnd (bitOr (getD ls i 0) (getD cs i 0)) (getD spares (12 - n + i) 0))) 0 && rowsFrom 4095 n (i + 1) ls cs) ≡ (leb over 0 && rowsFrom 4095 n i ls cs)
+rows-gathered n i over ls cs l h inLs inCs small =
+    ⊎-elim
+    (λ t. gather 4 12 over both refl (spare-at n i l h ∙ rw (t .1)) small _ ∙ ap (λ (b : Bool). leb over 0 && b) (sym (step ∙ rw (t .1))))
+    (λ t. gather 16 0 over both refl (spare-at n i l h ∙ rw (t .1)) small _ ∙ ap (λ (b : Bool). leb over 0 && b) (sym (step ∙ rw (t .1))))
+    (lt-cases i n)
+  where
+    both : ℕ
+    both = bitOr (getD ls i 0) (getD cs i 0)
+
+    step : rowsFrom 4095 n i ls cs ≡ (leb both (limit 4095 n i) && rowsFrom 4095 n (i + 1) ls cs)
+    step = rows-step 12 4095 n i ls cs refl inLs inCs
 
 -- ---- rows
 

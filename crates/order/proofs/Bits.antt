@@ -1,15 +1,17 @@
 -- A set of numbers as a number: digit k is 1 where k is in the set.
 -- Assumes nothing.
 use Prim.Native.Nat.{ℕ, zero, suc, _+_, _-_, _/_, _%_, _^_, _<_, suc-le-suc, max}
-use native.Mathlib.Nat.{max-le, mod-lt, zero-div}
+use native.Mathlib.Nat.{max-le, mod-lt, mod-eq-of-lt, zero-div}
 use native.Mathlib.Numerals.{one-add}
 use native.Mathlib.Omega.{arith}
 use mathlib.Core.Path.{_≡_, refl, sym, ap, _∙_}
+use mathlib.Core.Bool.{Bool, true, false, _&&_, and-assoc}
 use lib.Arith.{digits-mod}
-use lib.Bits.{bitOr, or-step, or-shr}
+use lib.Bits.{bitAnd, bitOr, and-high, and-le-l, and-le-r, or-add-and, or-lt, or-step, or-shr}
 use lib.Count.{ones, ones-step, ones-cat}
-use lib.Pow.{pow-pos, shr-shr, mod-pow-add}
-use lib.Dec.{eqb, ltb, leb·suc-suc, eqb·suc-suc}
+use lib.Pow.{pow-pos, recompose, shr-shr, mod-pow-add}
+use lib.Dec.{eqb, leb, ltb, leb·suc-suc, eqb·suc-suc, leb·suc-zero, eqb·suc-zero}
+use borrow.Author.Tests.{leb-true, leb-false, le-leb, lt-leb}
 use Rattle.order.specs.Cells.{tally}
 use Rattle.order.proofs.Cells.{tally-lt, tally-ge, tally-ne}
 
@@ -59,3 +61,34 @@ ones-next k m =
     ap (λ (j : ℕ). ones (m % 2 ^ j)) (sym (one-add k)) ∙ ap ones (mod-pow-add m 1 k)
     ∙ ones-cat k (m / 2 ^ k % 2) (m % 2 ^ k) (mod-lt m (pow-pos k))
     ∙ ap (λ (x : ℕ). x + ones (m % 2 ^ k)) (ones-digit (m / 2 ^ k % 2) (omega arith))
+
+-- ---- tests of a number's digits
+
+pub zero-test : (x : ℕ) → eqb x 0 ≡ leb x 0
+zero-test zero = refl
+zero-test (suc x) = eqb·suc-zero x ∙ sym (leb·suc-zero x)
+
+-- two numbers have k digits where their `|` has
+pub or-at-most : (k m a b : ℕ) → m + 1 ≡ 2 ^ k → leb (bitOr a b) m ≡ (leb a m && leb b m)
+or-at-most k m a b e = go (leb a m) refl (leb b m) refl
+  where
+    go : (p : Bool) → leb a m ≡ p → (q : Bool) → leb b m ≡ q → leb (bitOr a b) m ≡ (p && q)
+    go true f true g = le-leb (bitOr a b) m (omega (arith, e, or-lt k a b (omega (arith, e, leb-true a m f)) (omega (arith, e, leb-true b m g))))
+    go true f false g = lt-leb (bitOr a b) m (omega (arith, leb-false b m g, or-add-and a b, and-le-l a b))
+    go false f q g = lt-leb (bitOr a b) m (omega (arith, leb-false a m f, or-add-and a b, and-le-r a b))
+
+-- a number of j + k digits has k where those above them are 0
+pub high-zero : (j k x : ℕ) → x < 2 ^ (j + k) → leb (bitAnd x (2 ^ (j + k) - 2 ^ k)) 0 ≡ leb x (2 ^ k - 1)
+high-zero j k x l = go (leb x (2 ^ k - 1)) refl
+  where
+    parts : bitAnd x (2 ^ (j + k) - 2 ^ k) + x % 2 ^ k ≡ x
+    parts = rw (and-high x j k) (recompose j k l)
+
+    go : (b : Bool) → leb x (2 ^ k - 1) ≡ b → leb (bitAnd x (2 ^ (j + k) - 2 ^ k)) 0 ≡ b
+    go true e = le-leb (bitAnd x (2 ^ (j + k) - 2 ^ k)) 0 (omega (arith, parts, mod-eq-of-lt {n = x} {m = 2 ^ k} (omega (arith, pow-pos k, leb-true x (2 ^ k - 1) e))))
+    go false e = lt-leb (bitAnd x (2 ^ (j + k) - 2 ^ k)) 0 (omega (arith, parts, mod-lt x (pow-pos k), leb-false x (2 ^ k - 1) e))
+
+-- so with a second number beside it: `over` gathers what is too high
+pub gather : (j k over x : ℕ) {limit spare : ℕ} → limit ≡ 2 ^ k - 1 → spare ≡ 2 ^ (j + k) - 2 ^ k → x < 2 ^ (j + k) → (left : Bool)
+    → (leb (bitOr over (bitAnd x spare)) 0 && left) ≡ (leb over 0 && (leb x limit && left))
+gather j k over x e f l left = rw (e, f, or-at-most 0 0 over (bitAnd x (2 ^ (j + k) - 2 ^ k)) refl, high-zero j k x l) (and-assoc (leb over 0) (leb x (2 ^ k - 1)) left)

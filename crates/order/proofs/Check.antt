@@ -15,7 +15,7 @@ use Rattle.order.specs.Cells.{isOrder, allZero, isListing}
 use Rattle.order.specs.Steps.{isPadded}
 use Rattle.order.specs.Order.{cellNumbers, isOrderOf}
 use Rattle.order.proofs.Cells.{IsOrder, order-true, order-range, both}
-use Rattle.order.proofs.Limits.{padded-zeros, small-padded}
+use Rattle.order.proofs.Spare.{padded-zeros, small-padded}
 
 -- ---- what a listing tells, and when there is one
 
@@ -48,7 +48,7 @@ module _ (xs : List ℕ) (len n : ℕ) (e : len ≡ n) where
   pub not-padded : len ≤ 12 → isPadded len xs ≡ false → false ≡ isListing n len xs
   not-padded s p = go (isListing n len xs) refl
     where
-      low : IsOrder n (take len xs) → (k : ℕ) → k < len → getD xs k 0 ≤ 12
+      low : IsOrder n (take len xs) → (k : ℕ) → k < len → getD xs k 0 ≤ 15
       low o k l = omega (arith, order-range n (take len xs) o k (omega arith), getD-take len xs k 0 l)
 
       go : (b : Bool) → isListing n len xs ≡ b → false ≡ b

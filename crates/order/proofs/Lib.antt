@@ -4,8 +4,8 @@ pub mod Tabulate
 pub mod Numbers
 pub mod Sweep
 pub mod Padded
-pub mod Limits
 pub mod Bits
+pub mod Spare
 pub mod Marks
 pub mod Check
 pub mod Places

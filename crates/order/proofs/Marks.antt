@@ -32,20 +32,20 @@ met-next false r all l = max-zero _ ∙ ap (λ (x : ℕ). tally (ltb x all)) (ze
 pub record Met (xs : List ℕ) (met i : ℕ) : Type 0 where
   pub whole : length xs ≡ 12
   pub left : i ≤ 12
-  pub bound : met < 2 ^ 13
+  pub bound : met < 2 ^ 16
   pub digits : (k : ℕ) → met / 2 ^ k % 2 ≡ tally (ltb (count k (drop i xs)) (count k (0 ∷ xs)))
 
 pub met-none : (xs : List ℕ) → length xs ≡ 12 → Met xs 1 0
 met-none xs w = record { whole = w; left = omega arith; bound = omega arith; digits = λ k. digit-of-power k 0 ∙ met-first (eqb k 0) (count k xs) }
 
 module _ {xs : List ℕ} {met i : ℕ} (t : Met xs met i) where
-  pub met-more : i < 12 → {x b : ℕ} → x ≡ getD xs i 0 → x ≤ 12 → b ≡ 2 ^ x → Met xs (bitOr met b) (i + 1)
+  pub met-more : i < 12 → {x b : ℕ} → x ≡ getD xs i 0 → x ≤ 15 → b ≡ 2 ^ x → Met xs (bitOr met b) (i + 1)
   met-more l {x} at h e =
       rw e
       record {
         whole = t .whole;
         left = omega arith;
-        bound = or-lt 13 met (2 ^ x) (t .bound) (pow-lt {i = x} {j = 13} (omega arith));
+        bound = or-lt 16 met (2 ^ x) (t .bound) (pow-lt {i = x} {j = 16} (omega arith));
         digits = λ k.
             let next : count k (drop i xs) ≡ tally (eqb k x) + count k (drop (i + 1) xs) = ap (count k) (drop-up xs i (omega (arith, t .whole))) ∙ rw at in
             let some : count k (drop i xs) ≤ count k (0 ∷ xs) = count-drop k (suc i) (0 ∷ xs) in
@@ -81,7 +81,7 @@ module _ {xs : List ℕ} {met i : ℕ} (t : Met xs met i) (g : 12 ≤ i) (n : �
       (lt-cases 0 (count (suc c) (take n xs))))
 
   order-met : IsOrder n (take n xs) → met ≡ 2 ^ suc n - 1
-  order-met o = same-digits 13 met (2 ^ suc n - 1) (t .bound) (omega (arith, pow-mono {i = suc n} {j = 13} (omega arith))) same
+  order-met o = same-digits 16 met (2 ^ suc n - 1) (t .bound) (omega (arith, pow-mono {i = suc n} {j = 16} (omega arith))) same
     where
       same : (k : ℕ) → met / 2 ^ k % 2 ≡ (2 ^ suc n - 1) / 2 ^ k % 2
       same zero = met-zero ∙ sym (digit-of-ones 0 (suc n) ∙ tally-lt 0 (suc n) (omega arith))

@@ -1,6 +1,6 @@
 -- What a private contract says of a record's twelve numbers. No public contract rests on this.
 --
---   isPadded n xs      the first n numbers are not above 12, and those past them are 0
+--   isPadded n xs      the first n numbers have four bits, and those past them are 0
 use Prim.Native.Nat.{ℕ, zero, suc}
 use mathlib.Core.Bool.{Bool, true, _&&_}
 use mathlib.Core.List.{List, [], _∷_}
@@ -10,4 +10,4 @@ use Rattle.order.specs.Cells.{allZero}
 unfoldable pub isPadded : ℕ → List ℕ → Bool
 isPadded zero xs = allZero xs
 isPadded (suc n) [] = true
-isPadded (suc n) (x ∷ xs) = leb x 12 && isPadded n xs
+isPadded (suc n) (x ∷ xs) = leb x 15 && isPadded n xs

@@ -3,39 +3,44 @@
 // refusal's number and zeros, or the result.
 ghost use mathlib.Core.Path.{_≡_};
 ghost use mathlib.Core.Bool.{true};
-ghost use Prim.Native.Nat.{_≤_};
+ghost use Prim.Native.Nat.{_≤_, _<_};
+ghost use lib.Bits.{bitAnd};
 ghost use lib.ListN.{length};
 ghost use Rattle.order.specs.Refusals.{refusalNumber, outcomeNumber, numberOf, isSize};
 ghost use Rattle.order.specs.Cells.{isOrder};
 ghost use Rattle.order.specs.Steps.{isPadded};
 ghost use Rattle.order.specs.Order.{cellNumbers, listed, isOrderOf, orderChecks, pairChecks, noOrder, orderRecord, toldOrder, orderOfCells};
 
-// From place 12 - n on: the limits of the numbers in the twelve places of an order of n cells.
-const LIMITS: [u8; 24] = [
-    12,
-    12,
-    12,
-    12,
-    12,
-    12,
-    12,
-    12,
-    12,
-    12,
-    12,
-    12,
-    0,
-    0,
-    0,
-    0,
-    0,
-    0,
-    0,
-    0,
-    0,
-    0,
-    0,
-    0,
+const ALL_BITS: u8 = 255;
+
+const ABOVE_FOUR_BITS: u8 = ALL_BITS - 15;
+
+// From place 12 - n on: the bits that must be 0 in each of the twelve places of an order of n cells. A cell's number has four bits.
+const SPARE: [u8; 24] = [
+    ABOVE_FOUR_BITS,
+    ABOVE_FOUR_BITS,
+    ABOVE_FOUR_BITS,
+    ABOVE_FOUR_BITS,
+    ABOVE_FOUR_BITS,
+    ABOVE_FOUR_BITS,
+    ABOVE_FOUR_BITS,
+    ABOVE_FOUR_BITS,
+    ABOVE_FOUR_BITS,
+    ABOVE_FOUR_BITS,
+    ABOVE_FOUR_BITS,
+    ABOVE_FOUR_BITS,
+    ALL_BITS,
+    ALL_BITS,
+    ALL_BITS,
+    ALL_BITS,
+    ALL_BITS,
+    ALL_BITS,
+    ALL_BITS,
+    ALL_BITS,
+    ALL_BITS,
+    ALL_BITS,
+    ALL_BITS,
+    ALL_BITS,
 ];
 
 // A cell's number, from 1.
@@ -148,23 +153,27 @@ pub fn is_order(o: Order, n: usize) -> bool
     }
 }
 
-// Whether the places up to the length hold numbers up to 12, and the places past it 0. From 12 - n on, the row of limits has n places before
-// its zeros.
+// Whether the places up to the length hold numbers up to 15, and the places past it 0: no place has a bit that must be 0.
 fn is_padded(o: Order) -> bool
     requires { ⌜ o .len ≤ 12 ⌝ }
     ensures { λ r. ⌜ r ≡ isPadded (o .len) (cellNumbers o) ⌝ }
 {
-    let limits = LIMITS;
+    let spare = SPARE;
     let n = o.len;
-    let mut padded = true;
+    let mut over: u8 = 0;
     let mut i = 0;
     while i < 12 {
-        if limits[12 - n + i] < o.cells[i].0 {
-            padded = false;
-        }
+        over = over | bits_among(o.cells[i].0, spare[12 - n + i]);
         i += 1;
     }
-    padded
+    over == 0
+}
+
+// The bits that a number has among those given.
+fn bits_among(number: u8, bits: u8) -> u8
+    ensures { λ r. ⌜ (r ≡ bitAnd number bits) × (number < 256) ⌝ }
+{
+    number & bits
 }
 
 // Whether the listed cells are 1 to the length, each once: n numbers among which each of 1 to n stands. Bit c of the set says that c is met.

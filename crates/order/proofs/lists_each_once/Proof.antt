@@ -8,7 +8,7 @@ use lib.ListN.{getD}
 use lib.Pow.{pow-mono, pow-pos}
 use Rattle.order.specs.Order.{cellNumbers}
 use Rattle.order.proofs.Numbers.{length-mapped, length-places, place-at}
-use Rattle.order.proofs.Limits.{padded-small, padded-zeros}
+use Rattle.order.proofs.Spare.{padded-small, padded-zeros}
 use Rattle.order.proofs.Marks.{Met, met-none, met-more, met-all}
 use Rattle.order.proofs.lists_each_once.Statement.{statement}
 use Rattle.order.proofs.lists_each_once.Tie as tie
@@ -20,11 +20,11 @@ abbrev μ-loop : tie.MeasureT-loop
 μ-loop o n met₀ i₀ met i = 12 - i
 
 -- no shift loses a bit
-bit : (k : ℕ) → k ≤ 12 → (1 ≤ 2 ^ k) × (2 ^ k ≤ 2 ^ 12)
-bit k l = (pow-pos k, pow-mono {i = k} {j = 12} l)
+bit : (k : ℕ) → k ≤ 15 → (1 ≤ 2 ^ k) × (2 ^ k ≤ 2 ^ 15)
+bit k l = (pow-pos k, pow-mono {i = k} {j = 15} l)
 
 -- the number that is met
-small : (c : tie.In-loop Inv-loop μ-loop) → let o = c .before .before .args .t1 in (getD (o .cells) (c .before .loop .i) (record { 0 = 0 })) .0 ≤ 12
+small : (c : tie.In-loop Inv-loop μ-loop) → let o = c .before .before .args .t1 in (getD (o .cells) (c .before .loop .i) (record { 0 = 0 })) .0 ≤ 15
 small c = rw (place-at _ _) (padded-small _ _ _ (c .before .before .pre .1))
 
 loop-holds : tie.Need-loop-holds Inv-loop μ-loop
@@ -49,13 +49,13 @@ positive x m h l = rw (mod-eq-of-lt l) h
 
 sub-result : tie.Need-sub-result Inv-loop μ-loop
 sub-result c =
-    let b = bit _ (c .before .before .pre .0) in
+    let b = bit (c .before .before .args .t1 .len) (omega (arith, c .before .before .pre .0)) in
     positive _ _ (omega (arith, b)) (omega (arith, b))
 
 returns : tie.Need-returns Inv-loop μ-loop
 returns c =
     let p = c .before .before .pre in
-    let b = bit _ (p .0) in
+    let b = bit (c .before .before .args .t1 .len) (omega (arith, p .0)) in
     met-all (c .before .loop .inv) (c .loop-test .left) _ (p .0) (padded-zeros _ _ (p .1)) (omega (arith, b))
 
 pub lists-each-once-spec : {M : Type 1} → statement M
