@@ -2,7 +2,7 @@
 -- Assumes nothing.
 use Prim.Native.Nat.{ℕ, zero, suc, _+_, _-_, _^_, _<_, _≤_}
 use mathlib.Core.Path.{_≡_, refl, sym, ap, ap₂, _∙_}
-use mathlib.Core.Bool.{Bool, true, false, _&&_, cond}
+use mathlib.Core.Bool.{Bool, true, false, _&&_, and-false, and-true, cond}
 use mathlib.Core.Logic.{⊎-elim}
 use mathlib.Core.List.{List, [], _∷_, _++_}
 use native.Mathlib.Nat.{sub-zero, zero-sub, suc-sub-suc, le-refl, le-trans}
@@ -11,16 +11,16 @@ use lib.Bits.{bitAnd, bitOr}
 use lib.Dec.{leb, ltb}
 use lib.ListN.{length, getD, drop, replicate, length-replicate, getD-replicate, List·getD-append}
 use lib.Seq.{drop-at, getD-append-add}
-use borrow.Author.Tests.{leb-true, le-leb, lt-leb}
+use borrow.Author.Tests.{leb-true, leb-false, le-leb, lt-leb}
 use Rattle.order.proofs.Cells.{both, lt-cases}
 use Rattle.order.proofs.Numbers.{drop-up}
-use Rattle.order.proofs.Bits.{or-at-most, gather}
+use Rattle.order.proofs.Bits.{or-at-most, high-zero, gather}
 use Rattle.group.specs.Levels.{AtMost, empty, more, atMost}
 use Rattle.group.specs.Record.{allAtMost, isRow}
 
 -- ---- the places from i on
 
-pub at-most-step : (i : ℕ) (ls cs : List ℕ) → i < length ls → i < length cs
+at-most-step : (i : ℕ) (ls cs : List ℕ) → i < length ls → i < length cs
     → atMost (drop i ls) (drop i cs) ≡ (leb (getD ls i 0) (getD cs i 0) && atMost (drop (i + 1) ls) (drop (i + 1) cs))
 unfolding atMost
 at-most-step i ls cs l c = rw (drop-up ls i l, drop-up cs i c)
@@ -30,22 +30,18 @@ drop-replicate zero n v = simp sub-zero
 drop-replicate (suc i) zero v = simp zero-sub
 drop-replicate (suc i) (suc n) v = drop-replicate i n v ∙ simp suc-sub-suc
 
--- ---- a flag that falls where a place fails its test
+excess-test : (x m : ℕ) → leb (x - m) 0 ≡ leb x m
+excess-test x m = go (leb x m) refl
+  where
+    go : (b : Bool) → leb x m ≡ b → leb (x - m) 0 ≡ b
+    go true e = le-leb (x - m) 0 (omega (arith, leb-true x m e))
+    go false e = lt-leb (x - m) 0 (omega (arith, leb-false x m e))
 
-and-false : (b : Bool) → (b && false) ≡ false
-and-false true = refl
-and-false false = refl
-
-module _ (flag left : Bool) {next : Bool} {x m : ℕ} where
-  pub flag-falls : m < x → next ≡ false → (next && left) ≡ (flag && (leb x m && left))
-  flag-falls l e = rw (e, lt-leb x m l, and-false flag)
-
-  pub flag-stays : x ≤ m → next ≡ flag → (next && left) ≡ (flag && (leb x m && left))
-  flag-stays l e = rw (e, le-leb x m l)
-
-pub flag-ends : (flag : Bool) → (flag && true) ≡ flag
-flag-ends true = refl
-flag-ends false = refl
+-- `over` gathers by how much each number of ls is above that of cs: place i is tested
+pub at-most-gathered : (i over : ℕ) (ls cs : List ℕ) → i < length ls → i < length cs
+    → (leb (bitOr over (getD ls i 0 - getD cs i 0)) 0 && atMost (drop (i + 1) ls) (drop (i + 1) cs)) ≡ (leb over 0 && atMost (drop i ls) (drop i cs))
+at-most-gathered i over ls cs l c =
+    gather over (getD ls i 0 - getD cs i 0) (excess-test (getD ls i 0) (getD cs i 0)) _ ∙ ap (λ (b : Bool). leb over 0 && b) (sym (at-most-step i ls cs l c))
 
 -- ---- numbers up to m
 
@@ -87,7 +83,7 @@ regroup true false false s = refl
 
 first-in : (m k x : ℕ) (xs : List ℕ) → isRow m (suc k) (x ∷ xs) ≡ (leb x m && isRow m k xs)
 unfolding isRow allAtMost
-first-in m k x xs = regroup (leb x m) (allAtMost m xs) true (allAtMost 0 (drop k xs)) ∙ rw (flag-ends (leb x m))
+first-in m k x xs = regroup (leb x m) (allAtMost m xs) true (allAtMost 0 (drop k xs)) ∙ rw (and-true (leb x m))
 
 first-past : (m x : ℕ) (xs : List ℕ) → isRow m 0 (x ∷ xs) ≡ (leb x 0 && isRow m 0 xs)
 unfolding isRow allAtMost
@@ -149,8 +145,8 @@ pub rows-gathered : (n i over : ℕ) (ls cs : List ℕ) → n ≤ 12 → i < 12 
     → (leb (bitOr over (bitAnd (bitOr (getD ls i 0) (getD cs i 0)) (getD spares (12 - n + i) 0))) 0 && rowsFrom 4095 n (i + 1) ls cs) ≡ (leb over 0 && rowsFrom 4095 n i ls cs)
 rows-gathered n i over ls cs l h inLs inCs small =
     ⊎-elim
-    (λ t. gather 4 12 over both refl (spare-at n i l h ∙ rw (t .1)) small _ ∙ ap (λ (b : Bool). leb over 0 && b) (sym (step ∙ rw (t .1))))
-    (λ t. gather 16 0 over both refl (spare-at n i l h ∙ rw (t .1)) small _ ∙ ap (λ (b : Bool). leb over 0 && b) (sym (step ∙ rw (t .1))))
+    (λ t. gather over _ (high-zero 4 12 both (spare-at n i l h ∙ rw (t .1)) small) _ ∙ ap (λ (b : Bool). leb over 0 && b) (sym (step ∙ rw (t .1))))
+    (λ t. gather over _ (high-zero 16 0 both (spare-at n i l h ∙ rw (t .1)) small) _ ∙ ap (λ (b : Bool). leb over 0 && b) (sym (step ∙ rw (t .1))))
     (lt-cases i n)
   where
     both : ℕ

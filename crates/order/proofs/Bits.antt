@@ -78,8 +78,8 @@ or-at-most k m a b e = go (leb a m) refl (leb b m) refl
     go false f q g = lt-leb (bitOr a b) m (omega (arith, leb-false a m f, or-add-and a b, and-le-r a b))
 
 -- a number of j + k digits has k where those above them are 0
-pub high-zero : (j k x : ℕ) → x < 2 ^ (j + k) → leb (bitAnd x (2 ^ (j + k) - 2 ^ k)) 0 ≡ leb x (2 ^ k - 1)
-high-zero j k x l = go (leb x (2 ^ k - 1)) refl
+pub high-zero : (j k x : ℕ) {spare : ℕ} → spare ≡ 2 ^ (j + k) - 2 ^ k → x < 2 ^ (j + k) → leb (bitAnd x spare) 0 ≡ leb x (2 ^ k - 1)
+high-zero j k x e l = rw e (go (leb x (2 ^ k - 1)) refl)
   where
     parts : bitAnd x (2 ^ (j + k) - 2 ^ k) + x % 2 ^ k ≡ x
     parts = rw (and-high x j k) (recompose j k l)
@@ -88,7 +88,6 @@ high-zero j k x l = go (leb x (2 ^ k - 1)) refl
     go true e = le-leb (bitAnd x (2 ^ (j + k) - 2 ^ k)) 0 (omega (arith, parts, mod-eq-of-lt {n = x} {m = 2 ^ k} (omega (arith, pow-pos k, leb-true x (2 ^ k - 1) e))))
     go false e = lt-leb (bitAnd x (2 ^ (j + k) - 2 ^ k)) 0 (omega (arith, parts, mod-lt x (pow-pos k), leb-false x (2 ^ k - 1) e))
 
--- so with a second number beside it: `over` gathers what is too high
-pub gather : (j k over x : ℕ) {limit spare : ℕ} → limit ≡ 2 ^ k - 1 → spare ≡ 2 ^ (j + k) - 2 ^ k → x < 2 ^ (j + k) → (left : Bool)
-    → (leb (bitOr over (bitAnd x spare)) 0 && left) ≡ (leb over 0 && (leb x limit && left))
-gather j k over x e f l left = rw (e, f, or-at-most 0 0 over (bitAnd x (2 ^ (j + k) - 2 ^ k)) refl, high-zero j k x l) (and-assoc (leb over 0) (leb x (2 ^ k - 1)) left)
+-- `over` gathers numbers, and is 0 where each of them is: t says whether the next one, y, is
+pub gather : (over y : ℕ) {t : Bool} → leb y 0 ≡ t → (left : Bool) → (leb (bitOr over y) 0 && left) ≡ (leb over 0 && (t && left))
+gather over y {t} e left = rw (or-at-most 0 0 over y refl, e) (and-assoc (leb over 0) t left)

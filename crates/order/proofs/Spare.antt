@@ -16,7 +16,7 @@ use Rattle.order.proofs.Cells.{both, lt-cases}
 use Rattle.order.proofs.Tabulate.{getD-tabulate}
 use Rattle.order.proofs.Numbers.{drop-up}
 use Rattle.order.proofs.Padded.{zero-at}
-use Rattle.order.proofs.Bits.{zero-test, gather}
+use Rattle.order.proofs.Bits.{zero-test, high-zero, gather}
 
 -- the row: twelve times the bits above the lowest four, then twelve times all eight
 abbrev spare : ℕ → ℕ
@@ -56,8 +56,8 @@ module _ {xs : List ℕ} {len over i : ℕ} (t : PaddedTo xs len over i) where
     gathered : leb (bitOr over (bitAnd x y)) 0 && isPadded (len - (i + 1)) (drop (i + 1) xs) ≡ leb over 0 && isPadded (len - i) (drop i xs)
     gathered =
         ⊎-elim
-        (λ h. gather 4 4 over x refl (met-spare ∙ rw (lt-ltb (12 - len + i) 12 (omega (arith, t .small)))) byte _ ∙ ap (λ (b : Bool). leb over 0 && b) (sym (listed-step (h .0))))
-        (λ h. gather 8 0 over x refl (met-spare ∙ rw (le-ltb (12 - len + i) 12 (omega (arith, t .small)))) byte _ ∙ ap (λ (b : Bool). leb over 0 && b) (sym (past-step (h .0))))
+        (λ h. gather over (bitAnd x y) (high-zero 4 4 x (met-spare ∙ rw (lt-ltb (12 - len + i) 12 (omega (arith, t .small)))) byte) _ ∙ ap (λ (b : Bool). leb over 0 && b) (sym (listed-step (h .0))))
+        (λ h. gather over (bitAnd x y) (high-zero 8 0 x (met-spare ∙ rw (le-ltb (12 - len + i) 12 (omega (arith, t .small)))) byte) _ ∙ ap (λ (b : Bool). leb over 0 && b) (sym (past-step (h .0))))
         (lt-cases i len)
 
     pub padded-more : PaddedTo xs len (bitOr over (bitAnd x y)) (i + 1)

@@ -1,14 +1,14 @@
--- Wrong machines that demand 3 shuts out. Each is caught on a group of three cells, just opened, by the order [1, 2, 3] (one by [1, 3, 2] after it; one
--- by [1, 2, 3] into a list of one place, which the plain machine refuses 10). At a write of [1, 2, 3] by value the plain machine goes to levels 2, 1, 0
--- for 3 pulses, and that course is one of the rivals of every machine that accepts that write.
+-- Wrong machines that demand 3 shuts out. Each is caught on a group of three cells, just opened, by the order [1, 2, 3]: at once, at that order
+-- again or [1, 3, 2] after it, after a cell is worn, or into a list of one place, which the plain machine refuses 10. At a write of [1, 2, 3] by
+-- value the plain machine goes to levels 2, 1, 0 for 3 pulses, and that course is one of the rivals of every machine that accepts that write.
 -- Assumes nothing.
 use Prim.Native.Nat.{ℕ, suc, _+_, _<_}
 use mathlib.Core.Path.{_≡_, refl}
 use mathlib.Core.Bool.{cond, _&&_}
 use mathlib.Core.List.{List, [], _∷_}
 use native.Mathlib.Omega.{arith}
-use lib.Dec.{lit<, lit≤, leb, ltb}
-use lib.ListN.{replicate}
+use lib.Dec.{lit<, lit≤, eqb, leb, ltb}
+use lib.ListN.{getD, replicate}
 use Rattle.order.specs.declared.Order.{Order}
 use Rattle.order.specs.Refusals.{numberOf, Told, answer}
 use Rattle.order.specs.Cells.{tabulate, eachOnce, isOrder, allZero, isListing}
@@ -25,7 +25,7 @@ use Rattle.plain_machine.specs.declared.Kind.the-variants.{Write, WriteInto, St
 use Rattle.plain_machine.specs.declared.Call.{Call}
 use Rattle.engine.specs.Scrub.{Step, quiet}
 use Rattle.plain_machine.specs.Machine.{writes, target, applyOf}
-use Rattle.rivals.specs.Rivals.{Rival, Raised, Follows, Moves, entrant, latest, Machine, after, pulsesOf, plain, plainAfter, rest, next, Raisable, Demand3, own}
+use Rattle.rivals.specs.Rivals.{Rival, Raised, Follows, Moves, entrant, latest, Machine, after, pulsesOf, plain, plainAfter, Course, rest, next, Raisable, Demand3, own}
 
 -- the machines start from a new group of 3 cells
 abbrev pub start : Group
@@ -209,3 +209,38 @@ hasty-refuted d =
         spent = refl;
       },
     )
+
+-- one that pushes truly on the first write and later only copies the target: a group that is written is raised from levels 0. After the first
+-- write it shows [1, 3, 2] by 2, 0, 1: cell 2 has come down from 1
+pub copier : Machine
+copier g c =
+    let new = raise 1 (singles (target g c)) (replicate 12 0) in
+    cond (writes (c .kind) && g .written) (altered (λ ls. new) (λ k. rises (g .levels) new) (applyOf g c)) (applyOf g c)
+
+-- the second step of a course of two calls
+second-step : {run : Machine} {g p : Group} {r s t : Rival} {c d : Call} → Course run g p r (c ∷ d ∷ []) (s ∷ t ∷ [])
+    → let h = run g c .value .group in Moves (run h d .number) (d .kind) (target (plainAfter (run g c .number) p c) d) s t
+second-step (next a (next b rest)) = b
+
+-- its own course is none of the rivals
+pub copier-refuted : ¬ (Demand3 copier start (call ∷ second-call ∷ []))
+unfolding copier own latest after plainAfter entrant Moves Follows applyOf writeOf answer pushed rises numberOf isRow allAtMost orderRecord cellNumbers isOrderOf isListing isOrder eachOnce allZero fits raised raise lift singles floorOver top level put atMost
+copier-refuted d = let high = at-most-level 2 (second-step (d .ours) .no-lower) in omega arith
+
+-- one that holds only the target's top cell to its cap
+pub lax : Machine
+lax g c =
+    let t = applyOf g c in
+    let new = raise 1 (singles (target g c)) (g .levels) in
+    let first = getD (target g c) 0 0 in
+    cond (writes (c .kind) && eqb (t .number) 8 && leb (level new first) (level (g .caps) first))
+    (record { number = 0; value = altered (λ ls. new) (λ k. rises (g .levels) new) t .value })
+    t
+
+abbrev pub spent-call : Call
+spent-call = record { kind = Wear (record { 0 = 2 }) 0; target = order }
+
+-- with cell 2 worn to 0 it takes the order [1, 2, 3], whose top cell has room
+pub lax-refuted : ¬ (Demand3 lax start (spent-call ∷ []))
+unfolding lax latest after plainAfter applyOf writeOf wearOf answer pushed rises numberOf isRow allAtMost orderRecord cellNumbers isOrderOf isListing isOrder eachOnce allZero fits raised raise lift singles floorOver top level put atMost
+lax-refuted d = let e : _≡_ {A = ℕ} 8 0 = d .accepted call .0 refl in omega arith
