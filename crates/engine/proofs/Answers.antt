@@ -16,7 +16,7 @@ use Rattle.order.specs.declared.Outcome.{Outcome}
 use Rattle.order.specs.declared.Outcome.the-variants.{Done, Refused}
 use Rattle.order.specs.Refusals.{refusalNumber, outcomeNumber, numberOf, Told, answer}
 use Rattle.order.specs.Cells.{isOrder}
-use Rattle.order.specs.Order.{listed, orderRecord, noOrder, isOrderOf, orderChecks, toldOrder}
+use Rattle.order.specs.Order.{listed, orderRecord, isOrderOf, orderChecks, toldOrder}
 use Rattle.order.proofs.Refusals.{refused-zeros, check-holds, check-fails, check-held, later-decide, refused-first, outcome-first, told-done, told-refused, passed-on, accepted, size-in, all-hold, all-held}
 use Rattle.order.proofs.Records.{passed, recorded-length, recorded-list, recorded-passes}
 use Rattle.decoder.specs.Decoding.{correction}
@@ -32,7 +32,7 @@ use Rattle.group.proofs.Checks.{checked-size}
 use Rattle.sensing.proofs.Sensed.{sensed-order}
 use Rattle.engine.specs.declared.ReadAnswer.{ReadAnswer}
 use Rattle.engine.specs.declared.ReadAnswer.the-variants as read
-use Rattle.engine.specs.ReadStore.{sensedOrder, markedChecks, markedOf, readChecks, readingOf, toldRead, readOf, storeChecks, storeOf, alikeOf}
+use Rattle.engine.specs.ReadStore.{sensedOrder, markedChecks, readChecks, readingOf, toldRead, readOf, storeChecks, storeOf, alikeOf}
 
 -- checks that give the same number, and the same result
 same-answer : {A : Type 0} (a b : List (Bool × Refusal)) (x y zeros : A) → numberOf a ≡ numberOf b → x ≡ y → answer a x zeros ≡ answer b y zeros
@@ -50,39 +50,30 @@ same-first ((false, r) ∷ first) a b x y zeros h = rw (refused-zeros r x zeros,
 
 -- ---- the order that is sensed
 
-module _ (g : Group) where
-  pub sense-number : (a : OrderAnswer) → toldOrder a ≡ senseOf g → outcomeNumber (a .outcome) ≡ numberOf (groupChecks g)
+module _ (g : Group) (a : OrderAnswer) (e : toldOrder a ≡ senseOf g) where
+  pub sense-number : outcomeNumber (a .outcome) ≡ numberOf (groupChecks g)
   unfolding senseOf answer
-  sense-number a e = ap (λ (t : Told Order). t .number) e
+  sense-number = ap (λ (t : Told Order). t .number) e
 
-  -- the mark is asked where the record is a group
-  pub marked-refused : (r : Refusal) → numberOf (groupChecks g) ≡ refusalNumber r → senseOf g ≡ markedOf g
-  unfolding senseOf markedOf
-  marked-refused r e = sym (told-refused _ _ _ r e) ∙ told-refused _ _ _ r (refused-first _ (groupChecks g) r e)
+  pub sense-record : numberOf (groupChecks g) ≡ 0 → a .order ≡ orderRecord (sensedOrder g)
+  unfolding senseOf
+  sense-record d = ap (λ (t : Told Order). t .value) (e ∙ sym (told-done _ _ _ d))
+
+-- ---- the mark, which is asked where the record is a group
+
+module _ (g : Group) where
+  pub mark-unasked : (r : Refusal) → numberOf (groupChecks g) ≡ refusalNumber r → numberOf (markedChecks g) ≡ refusalNumber r
+  mark-unasked r e = refused-first _ (groupChecks g) r e
 
   module _ (d : numberOf (groupChecks g) ≡ 0) where
-    pub marked-blank : g .written ≡ false → record { number = refusalNumber Blank; value = noOrder } ≡ markedOf g
-    unfolding markedOf
-    marked-blank w = told-refused _ _ _ Blank (later-decide _ (groupChecks g) d ∙ check-fails _ _ w)
+    pub mark-fails : g .written ≡ false → numberOf (markedChecks g) ≡ refusalNumber Blank
+    mark-fails w = later-decide _ (groupChecks g) d ∙ check-fails _ _ w
 
     pub mark-holds : g .written ≡ true → numberOf (markedChecks g) ≡ 0
     mark-holds w = later-decide _ (groupChecks g) d ∙ check-holds _ _ w ∙ all-hold
 
-    pub marked-done : g .written ≡ true → senseOf g ≡ markedOf g
-    unfolding senseOf markedOf
-    marked-done w = sym (told-done _ _ _ d) ∙ told-done _ _ _ (mark-holds w)
-
   pub mark-held : numberOf (markedChecks g) ≡ 0 → (numberOf (groupChecks g) ≡ 0) × (g .written ≡ true)
   mark-held m = let t = all-held _ (groupChecks g) m in (t .0, check-held (g .written) Blank [] (t .1) .0)
-
-module _ (g : Group) (a : OrderAnswer) (e : toldOrder a ≡ markedOf g) where
-  pub marked-number : outcomeNumber (a .outcome) ≡ numberOf (markedChecks g)
-  unfolding markedOf answer
-  marked-number = ap (λ (t : Told Order). t .number) e
-
-  pub marked-record : numberOf (markedChecks g) ≡ 0 → a .order ≡ orderRecord (sensedOrder g)
-  unfolding markedOf
-  marked-record m = ap (λ (t : Told Order). t .value) (e ∙ sym (told-done _ _ _ m))
 
 -- ---- read
 

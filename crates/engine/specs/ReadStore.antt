@@ -3,7 +3,6 @@
 --   sensedOrder g         the order that a reading finds
 --   placeRead g           the place at which it is put right: 0 where it is a codeword, n where it is lost
 --   markedChecks g        the checks of a read before it decodes: 1, 2, 6
---   markedOf g            the order that a reading finds, past these checks
 --   readChecks g          the checks of a read: 1, 2, 6, 7
 --   storeChecks g s       the checks of a store: 1, 2, 5, 8
 --   readingOf g           what an accepted read answers: the symbol and the verdict
@@ -14,11 +13,9 @@ use mathlib.Core.Bool.{Bool, false, _&&_}
 use mathlib.Core.List.{List, [], _∷_, _++_}
 use mathlib.Core.Option.{some}
 use lib.Dec.{eqb, ltb}
-use Rattle.order.specs.declared.Order.{Order}
 use Rattle.order.specs.declared.Refusal.{Refusal}
 use Rattle.order.specs.declared.Refusal.the-variants.{NoSymbol, Blank, Lost}
 use Rattle.order.specs.Refusals.{refusalNumber, Told, answer}
-use Rattle.order.specs.Order.{orderRecord, noOrder}
 use Rattle.decoder.specs.Decoding.{correction}
 use Rattle.code.specs.Words.{K}
 use Rattle.code.specs.Symbols.{wordOf, Reading, noReading, readingAt}
@@ -41,9 +38,6 @@ placeRead g = correction (g .n) (sensedOrder g)
 
 abbrev pub markedChecks : Group → List (Bool × Refusal)
 markedChecks g = groupChecks g ++ (g .written, Blank) ∷ []
-
-unfoldable pub markedOf : Group → Told Order
-markedOf g = answer (markedChecks g) (orderRecord (sensedOrder g)) noOrder
 
 abbrev pub readChecks : Group → List (Bool × Refusal)
 readChecks g = markedChecks g ++ (ltb (placeRead g) (g .n), Lost) ∷ []

@@ -4,7 +4,6 @@
 use code::DecodeAnswer;
 use code::Verdict;
 use group::Group;
-use order::OrderAnswer;
 use order::Outcome;
 use order::Refusal;
 use writing::Push;
@@ -13,10 +12,9 @@ ghost use mathlib.Core.Path.{_≡_};
 ghost use mathlib.Core.Bool.{false};
 ghost use mathlib.Core.Option.{some};
 ghost use Rattle.order.specs.Refusals.{outcomeNumber, ifDone};
-ghost use Rattle.order.specs.Order.{toldOrder};
 ghost use Rattle.code.specs.Symbols.{toldDecode};
 ghost use Rattle.writing.specs.WriteAnswer.{toldWritten};
-ghost use Rattle.engine.specs.ReadStore.{markedOf, toldRead, readOf, storeOf, toldAlike, alikeOf};
+ghost use Rattle.engine.specs.ReadStore.{toldRead, readOf, storeOf, toldAlike, alikeOf};
 ghost use Rattle.engine.specs.Scrub.{toldApplied, quiet, programmedStep, afterRead, scrubOf};
 
 pub enum ReadAnswer {
@@ -50,28 +48,16 @@ pub struct Applied {
 pub fn read(g: Group) -> ReadAnswer
     ensures { λ r. ⌜ toldRead r ≡ readOf g ⌝ }
 {
-    let sensed = marked_order(g);
+    let sensed = sensing::sense(g);
     let outcome = sensed.outcome;
     if let Outcome::Refused(refusal) = outcome {
         return ReadAnswer::Refused(refusal);
     }
+    if !g.written {
+        return ReadAnswer::Refused(Refusal::Blank);
+    }
     let order = sensed.order;
     as_read(code::decode(order))
-}
-
-// The order that a read and a scrub start from: that of a group with the mark set.
-fn marked_order(g: Group) -> OrderAnswer
-    ensures { λ r. ⌜ toldOrder r ≡ markedOf g ⌝ }
-{
-    let sensed = sensing::sense(g);
-    let outcome = sensed.outcome;
-    let Outcome::Done = outcome else {
-        return sensed;
-    };
-    if !g.written {
-        return order::no_order(Refusal::Blank);
-    }
-    sensed
 }
 
 // The answer of a read, by that of the decoder.
@@ -145,11 +131,15 @@ fn refused(answer: ReadAnswer) -> AlikeAnswer
 pub fn scrub(g: Group) -> Applied
     ensures { λ r. ⌜ toldApplied r ≡ scrubOf g ⌝ }
 {
-    let sensed = marked_order(g);
+    let sensed = sensing::sense(g);
     let outcome = sensed.outcome;
     let Outcome::Done = outcome else {
         return unchanged(outcome, g);
     };
+    let marked = g.written;
+    if !marked {
+        return unchanged(Outcome::Refused(Refusal::Blank), g);
+    }
     let order = sensed.order;
     let found = code::corrected(order);
     let decoded = found.answer;
