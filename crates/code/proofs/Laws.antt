@@ -1,16 +1,17 @@
 -- The numbering as the specifications name it: numbers and words undo each other, and K(n) and each count of the table are numbers of choices.
 -- Assumes nothing.
-use mathlib.Core.Path.{_≡_, sym, _∙_, subst}
+use mathlib.Core.Path.{_≡_, refl, sym, _∙_, subst}
 use mathlib.Core.Bool.{true, _&&_}
 use mathlib.Core.List.{List, []}
-use Prim.Native.Nat.{ℕ, _+_, _-_, _*_, _≤_, _<_}
+use Prim.Native.Nat.{ℕ, zero, suc, _+_, _-_, _*_, _≤_, _<_}
+use native.Mathlib.Nat.{zero-mod}
 use native.Mathlib.Omega.{arith}
 use lib.Dec.{T, eqb}
-use lib.ListN.{length, getD}
-use borrow.Author.Tests.{eqb-true, eq-eqb}
+use lib.ListN.{length, getD, replicate, length-replicate}
+use borrow.Author.Tests.{eqb-true, eq-eqb, le-leb}
 use Rattle.order.proofs.Cells.{both}
-use Rattle.coordinates.specs.Coordinates.{inRange}
-use Rattle.decoder.specs.Decoding.{modulus, leaves}
+use Rattle.coordinates.specs.Coordinates.{limit, inRange}
+use Rattle.decoder.specs.Decoding.{modulus, weight, leaves}
 use Rattle.code.specs.Words.{select, vectorsFrom, vectors, words, K, wordAt, wordNumber}
 use Rattle.code.specs.Tails.{tails, Entry, Block}
 use Rattle.code.specs.Steps.{isWord}
@@ -43,6 +44,16 @@ pub entry-counts :
 unfolding tails wordsFrom
 entry-counts {n} b i r e = b .at i r e ∙ sym (count (modulus n) (omega arith) (n - i) i r (e .residue))
 
+zeros-in-range : (m i k : ℕ) → inRange m i (replicate k 0) ≡ true
+unfolding inRange
+zeros-in-range m i zero = refl
+zeros-in-range m i (suc k) = rw (le-leb 0 (limit m i) (omega arith)) (zeros-in-range m (suc i) k)
+
+weight-zeros : (i k : ℕ) → weight i (replicate k 0) ≡ 0
+unfolding weight
+weight-zeros i zero = refl
+weight-zeros i (suc k) = omega (arith, weight-zeros (suc i) k)
+
 module _ (n : ℕ) (pos : 0 < n) where
   -- K(n) is the count at start 1 and residue 0
   pub K-entry : tails n 1 0 ≡ K n
@@ -74,3 +85,11 @@ module _ (n : ℕ) (pos : 0 < n) where
   pub word-of-number : (x : List ℕ) → isWord n x ≡ true → wordAt n (wordNumber n x) ≡ x
   unfolding wordNumber wordAt K
   word-of-number x w = getD-index x (words n) [] (number-below x w)
+
+  -- there is a codeword: its coordinates are all 0
+  pub some-symbol : 0 < K n
+  unfolding leaves
+  some-symbol =
+      let x : List ℕ = replicate (n - 1) 0 in
+      let w : Word n x = record { size = length-replicate (n - 1) 0; range = zeros-in-range (n - 1) 1 (n - 1); sum = rw (weight-zeros 1 (n - 1), zero-mod (modulus n)) tt } in
+      omega (arith, number-below x (of-word n x w))

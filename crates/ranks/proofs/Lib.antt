@@ -3,3 +3,4 @@ pub mod Ranking
 pub mod InverseArray
 pub mod Determine
 pub mod Told
+pub mod Row

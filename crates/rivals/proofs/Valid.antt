@@ -1,16 +1,15 @@
 -- Demand 3 speaks of something: from an opened group no list of calls meets the numbers 1 and 2; for every n from 3 to 12 a first write is
 -- done, whatever its order (into a lent list where that has n - 1 places or more, and is refused 10 where it has fewer), and a first store, whatever its
--- symbol (there is one: `some-symbol`), and a scrub that comes next; and worn is given too.
+-- symbol (there is one: `some-symbol`, code/Laws), and a scrub that comes next; and worn is given too.
 -- Assumes nothing.
-use Prim.Native.Nat.{ℕ, zero, suc, _-_, _<_, _≤_}
+use Prim.Native.Nat.{ℕ, _-_, _<_, _≤_}
 use mathlib.Core.Path.{_≡_, refl, _∙_}
 use mathlib.Core.Logic.{_≢_, _⊎_, inl, inr, ⊎-elim}
 use mathlib.Core.Bool.{Bool, true, false}
 use mathlib.Core.List.{List, [], _∷_, _++_}
-use native.Mathlib.Nat.{zero-mod}
 use native.Mathlib.Omega.{arith}
 use lib.Dec.{lit<}
-use lib.ListN.{length, replicate, length-replicate}
+use lib.ListN.{length}
 use borrow.Author.Tests.{lt-ltb, le-leb, lt-leb}
 use Rattle.code.specs.Symbols.{wordOf}
 use Rattle.order.specs.declared.Order.{Order}
@@ -23,12 +22,10 @@ use Rattle.order.proofs.Cells.{order-true}
 use Rattle.order.proofs.Refusals.{all-hold, check-holds, check-fails, later-decide, size-true}
 use Rattle.order.proofs.Check.{order-parts}
 use Rattle.order.proofs.Records.{record-order}
-use Rattle.coordinates.specs.Coordinates.{orderFrom, limit, inRange}
+use Rattle.coordinates.specs.Coordinates.{orderFrom}
 use Rattle.coordinates.specs.Conversion.{coordinateAt}
 use Rattle.coordinates.proofs.RoundTrip.{order-of-any}
-use Rattle.decoder.specs.Decoding.{modulus, weight, leaves}
 use Rattle.code.specs.Words.{K, wordAt}
-use Rattle.code.proofs.Laws.{Word, of-word, number-below}
 use Rattle.group.specs.declared.Group.{Group}
 use Rattle.group.specs.Levels.{level, put, atMost}
 use Rattle.writing.specs.PushUp.{singles, top, floorOver, lift, raise}
@@ -96,16 +93,6 @@ opened-passes n size xs t =
 
 -- ---- first calls
 
-zeros-in-range : (m i k : ℕ) → inRange m i (replicate k 0) ≡ true
-unfolding inRange
-zeros-in-range m i zero = refl
-zeros-in-range m i (suc k) = rw (le-leb 0 (limit m i) (omega arith)) (zeros-in-range m (suc i) k)
-
-weight-zeros : (i k : ℕ) → weight i (replicate k 0) ≡ 0
-unfolding weight
-weight-zeros i zero = refl
-weight-zeros i (suc k) = omega (arith, weight-zeros (suc i) k)
-
 abbrev pub writing : Order → Call
 writing o = record { kind = Write; target = o }
 
@@ -150,15 +137,6 @@ module _ (n : ℕ) (size : isSize n ≡ true) where
       let long : length xs ≡ n = order-true n xs t .size in
       let whole : isOrder (length xs) xs ≡ true = rw long t in
       rw long at (record-order xs (omega (arith, size-true n size .1)) (rw long size) ∙ whole)
-
-  -- and a symbol: the coordinates of a codeword may all be 0
-  pub some-symbol : 0 < K n
-  unfolding leaves
-  some-symbol =
-      let low = size-true n size .0 in
-      let x : List ℕ = replicate (n - 1) 0 in
-      let w : Word n x = record { size = length-replicate (n - 1) 0; range = zeros-in-range (n - 1) 1 (n - 1); sum = rw (weight-zeros 1 (n - 1), zero-mod (modulus n)) tt } in
-      omega (arith, number-below n (omega arith) x (of-word n x w))
 
   module _ (s : ℕ) (l : s < K n) where
     word-passes : numberOf (pushChecks (opened n) (wordOf n s)) ≡ 0
