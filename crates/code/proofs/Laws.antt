@@ -1,4 +1,5 @@
--- The numbering as the specifications name it: numbers and words undo each other, and K(n) and each count of the table are numbers of choices.
+-- The numbering as the specifications name it: numbers and words undo each other, K(n) and each count of the table are numbers of choices, and there
+-- is a codeword.
 -- Assumes nothing.
 use mathlib.Core.Path.{_≡_, refl, sym, _∙_, subst}
 use mathlib.Core.Bool.{true, _&&_}

@@ -1,4 +1,4 @@
--- A set of numbers as a number: digit k is 1 where k is in the set.
+-- A set of numbers as a number: digit k is 1 where k is in the set. Tests of a number's digits.
 -- Assumes nothing.
 use Prim.Native.Nat.{ℕ, zero, suc, _+_, _-_, _/_, _%_, _^_, _<_, suc-le-suc, max}
 use native.Mathlib.Nat.{max-le, mod-lt, mod-eq-of-lt, zero-div}

@@ -1,4 +1,4 @@
--- A record's numbers against the row of bits that must be 0: four bits as far as the length, and none past it.
+-- A record's numbers against the row of bits that must be 0: the highest four of eight as far as the length, and all past it.
 -- Assumes nothing.
 use Prim.Native.Nat.{ℕ, zero, suc, _+_, _-_, _≤_, _<_}
 use native.Mathlib.Omega.{arith}

@@ -1,6 +1,6 @@
 -- What a private contract says of a record's twelve numbers. No public contract rests on this.
 --
---   isPadded n xs      the first n numbers have four bits, and those past them are 0
+--   isPadded n xs      the first n numbers are at most 15, and those past them are 0
 use Prim.Native.Nat.{ℕ, zero, suc}
 use mathlib.Core.Bool.{Bool, true, _&&_}
 use mathlib.Core.List.{List, [], _∷_}

@@ -169,7 +169,7 @@ fn is_padded(o: Order) -> bool
     over == 0
 }
 
-// The bits that a number has among those given.
+// The bits that a number has among those given. That it is below 256 is what the caller's proof needs of it.
 fn bits_among(number: u8, bits: u8) -> u8
     ensures { λ r. ⌜ (r ≡ bitAnd number bits) × (number < 256) ⌝ }
 {

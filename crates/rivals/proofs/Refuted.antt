@@ -1,10 +1,11 @@
--- Wrong machines that demand 3 shuts out. Each is caught on a group of three cells, just opened, by the order [1, 2, 3]: at once, at that order
--- again or [1, 3, 2] after it, after a cell is worn, or into a list of one place, which the plain machine refuses 10. At a write of [1, 2, 3] by
--- value the plain machine goes to levels 2, 1, 0 for 3 pulses, and that course is one of the rivals of every machine that accepts that write.
+-- Wrong machines that fail demand 3. Each is caught on a group of three cells, just opened, by the order [1, 2, 3]: at once, at that order again or
+-- [1, 3, 2] after it, at a read after it, after a cell is worn, or into a list of one place, which the plain machine refuses 10. At a write of
+-- [1, 2, 3] by value the plain machine goes to levels 2, 1, 0 for 3 pulses, and that course is one of the rivals of every machine that accepts
+-- that write.
 -- Assumes nothing.
 use Prim.Native.Nat.{ℕ, suc, _+_, _<_}
 use mathlib.Core.Path.{_≡_, refl}
-use mathlib.Core.Bool.{cond, _&&_}
+use mathlib.Core.Bool.{false, cond, _&&_}
 use mathlib.Core.List.{List, [], _∷_}
 use native.Mathlib.Omega.{arith}
 use lib.Dec.{lit<, lit≤, eqb, leb, ltb}
@@ -13,19 +14,24 @@ use Rattle.order.specs.declared.Order.{Order}
 use Rattle.order.specs.Refusals.{numberOf, Told, answer}
 use Rattle.order.specs.Cells.{tabulate, eachOnce, isOrder, allZero, isListing}
 use Rattle.order.specs.Order.{cellNumbers, isOrderOf, orderRecord}
+use Rattle.coordinates.specs.Coordinates.{coordinatesTo, coordinateOf}
+use Rattle.decoder.specs.Decoding.{weight, leaves, isCodeword, firstBelow, correction}
 use Rattle.group.specs.Levels.{level, put, AtMost, atMost, rises}
 use Rattle.writing.specs.PushUp.{singles, top, floorOver, Reach, Shows, lift, raise}
 use Rattle.group.specs.declared.Group.{Group}
-use Rattle.group.specs.Record.{allAtMost, isRow, opened, withLevels}
+use Rattle.group.specs.Record.{allAtMost, isRow, opened, changed, withLevels}
 use Rattle.writing.specs.WriteAnswer.{raised, fits, pushed, writeOf}
-use Rattle.group.specs.Changes.{wearOf}
+use Rattle.group.specs.Changes.{openOf, wearOf}
+use Rattle.sensing.specs.Sense.{above, insert, sorted, sensed}
+use Rattle.engine.specs.ReadStore.{readOf}
 use Rattle.group.proofs.Levels.{at-most-true, at-most-level}
 use Rattle.plain_machine.specs.declared.Kind.{Kind}
 use Rattle.plain_machine.specs.declared.Kind.the-variants.{Write, WriteInto, Store, Scrub, Leak, Wear, Erase, Read}
 use Rattle.plain_machine.specs.declared.Call.{Call}
 use Rattle.engine.specs.Scrub.{Step, quiet}
 use Rattle.plain_machine.specs.Machine.{writes, target, applyOf}
-use Rattle.rivals.specs.Rivals.{Rival, Raised, Follows, Moves, entrant, latest, Machine, after, pulsesOf, plain, plainAfter, Course, rest, next, Raisable, Demand3, own}
+use Rattle.plain_machine.proofs.Machine.{accept}
+use Rattle.rivals.specs.Rivals.{Rival, Raised, Follows, Moves, entrant, latest, Machine, after, pulsesOf, plain, plainAfter, Course, rest, next, Raisable, Demand3, MeetsDemand3, own}
 
 -- the machines start from a new group of 3 cells
 abbrev pub start : Group
@@ -56,21 +62,26 @@ course-raised =
     }
 
 module _ (run : Machine) where
+  -- one list of calls is enough
+  fails : (cs : List Call) → ¬ (Demand3 run start cs) → ¬ (MeetsDemand3 run)
+  unfolding openOf answer numberOf
+  fails cs fault meets = fault (meets 3 refl cs)
+
   -- it says worn where a rival can be raised
-  worn-refuted : run start call .number ≡ 8 → ¬ (Demand3 run start [])
+  worn-refuted : run start call .number ≡ 8 → ¬ (MeetsDemand3 run)
   unfolding Raisable latest after plain numberOf isRow allAtMost orderRecord cellNumbers isOrderOf isListing isOrder eachOnce allZero
-  worn-refuted e d = d .worn-exactly call refl refl .0 e ([], rest, course, course-raised)
+  worn-refuted e = fails [] (λ d. d .worn-exactly call refl refl .0 e ([], rest, course, course-raised))
 
   -- it goes higher than the plain machine does
   high-refuted : run start call .number ≡ 0 → ¬ (AtMost (run start call .value .group .levels) least)
-      → ¬ (Demand3 run start (call ∷ []))
+      → ¬ (MeetsDemand3 run)
   unfolding latest after Moves Follows
-  high-refuted e high d = high (d .lowest (course ∷ []) (next (rw e course-raised) rest))
+  high-refuted e high = fails (call ∷ []) (λ d. high (d .lowest (course ∷ []) (next (rw e course-raised) rest)))
 
   -- it reports more pulses
-  dear-refuted : run start call .number ≡ 0 → 3 < run start call .value .pulses → ¬ (Demand3 run start (call ∷ []))
+  dear-refuted : run start call .number ≡ 0 → 3 < run start call .value .pulses → ¬ (MeetsDemand3 run)
   unfolding latest pulsesOf Moves Follows
-  dear-refuted e dear d = let spent = d .cheapest (course ∷ []) (next (rw e course-raised) rest) in omega arith
+  dear-refuted e dear = fails (call ∷ []) (λ d. let spent = d .cheapest (course ∷ []) (next (rw e course-raised) rest) in omega arith)
 
 -- ---- such machines
 
@@ -78,7 +89,7 @@ module _ (run : Machine) where
 pub quitter : Machine
 quitter g c = record { number = 8; value = quiet g }
 
-pub quitter-refuted : ¬ (Demand3 quitter start [])
+pub quitter-refuted : ¬ (MeetsDemand3 quitter)
 unfolding quitter
 quitter-refuted = worn-refuted quitter refl
 
@@ -87,15 +98,19 @@ plain-answer : let t = applyOf start call in (t .number ≡ 0) × (t .value .gro
 unfolding applyOf writeOf answer pushed rises numberOf isRow allAtMost orderRecord cellNumbers isOrderOf isListing isOrder eachOnce allZero fits raised raise lift singles floorOver top level put atMost
 plain-answer = (refl, refl, refl)
 
--- the plain machine's answer with other levels, and with other pulses
-abbrev altered : (List ℕ → List ℕ) → (ℕ → ℕ) → Told Step → Told Step
-altered levels pulses t =
+-- the plain machine, but for the writes, stores and scrubs that it accepts
+abbrev otherwise : (Group → Call → Told Step → Told Step) → Machine
+otherwise wrong g c = let t = applyOf g c in cond (writes (c .kind) && eqb (t .number) 0) (wrong g c t) t
+
+-- an answer with another group, and with other pulses
+abbrev altered : (Group → Group) → (ℕ → ℕ) → Told Step → Told Step
+altered group pulses t =
     let v = t .value in
     record {
       number = t .number;
       value =
           record {
-            group = withLevels (v .group) (levels (v .group .levels));
+            group = group (v .group);
             symbol = v .symbol;
             verdict = v .verdict;
             pulses = pulses (v .pulses);
@@ -106,27 +121,27 @@ altered levels pulses t =
 
 -- one that raises cell 1 by one more than needed, and counts that pulse
 pub eager : Machine
-eager g c = altered (λ ls. put ls 1 (level ls 1 + 1)) (λ k. k + 1) (applyOf g c)
+eager = otherwise (λ g c. altered (λ h. withLevels h (put (h .levels) 1 (level (h .levels) 1 + 1))) (λ k. k + 1))
 
-pub eager-refuted : ¬ (Demand3 eager start (call ∷ []))
+pub eager-refuted : ¬ (MeetsDemand3 eager)
 unfolding eager level put
-eager-refuted = high-refuted eager (plain-answer .0) (λ p. let high = rw (plain-answer .1) at (at-most-level 1 p) in omega arith)
+eager-refuted = high-refuted eager (rw (plain-answer .0)) (λ p. let high = rw (plain-answer .0, plain-answer .1) at (at-most-level 1 p) in omega arith)
 
 -- one that reports more pulses than it spent
 pub boaster : Machine
-boaster g c = altered (λ ls. ls) (λ k. k + 1) (applyOf g c)
+boaster = otherwise (λ g c. altered (λ h. h) (λ k. k + 1))
 
-pub boaster-refuted : ¬ (Demand3 boaster start (call ∷ []))
+pub boaster-refuted : ¬ (MeetsDemand3 boaster)
 unfolding boaster
-boaster-refuted = dear-refuted boaster (plain-answer .0) (rw (plain-answer .2) (lit< tt))
+boaster-refuted = dear-refuted boaster (rw (plain-answer .0)) (rw (plain-answer .0, plain-answer .2) (lit< tt))
 
 -- one that reports no pulses
 pub silent : Machine
-silent g c = altered (λ ls. ls) (λ k. 0) (applyOf g c)
+silent = otherwise (λ g c. altered (λ h. h) (λ k. 0))
 
-pub silent-refuted : ¬ (Demand3 silent start (call ∷ []))
+pub silent-refuted : ¬ (MeetsDemand3 silent)
 unfolding silent own latest entrant pulsesOf rises
-silent-refuted d = let e = rw (plain-answer .1) at (d .exact) in omega arith
+silent-refuted = fails silent (call ∷ []) (λ d. let e = rw (plain-answer .0, plain-answer .1) at (d .exact) in omega arith)
 
 -- one that pushes to the top (SD 002): going up the target, a cell that is not above the one below it is raised to one more than the highest
 -- level of all cells. From levels 2, 1, 0 it shows [1, 3, 2] by 4, 1, 3, where 3, 1, 2 will do
@@ -137,10 +152,12 @@ toTheTop (c ∷ d ∷ cs) ls =
     let new = toTheTop (d ∷ cs) ls in
     cond (ltb (level new d) (level new c)) new (put new c (top (tabulate 12 suc) new + 1))
 
+-- the levels taken instead, and their rises counted
+abbrev levelled : (Group → Call → List ℕ) → Group → Call → Told Step → Told Step
+levelled new g c = altered (λ h. withLevels h (new g c)) (λ k. rises (g .levels) (new g c))
+
 pub climber : Machine
-climber g c =
-    let new = cond (writes (c .kind)) (toTheTop (target g c) (g .levels)) (applyOf g c .value .group .levels) in
-    altered (λ ls. new) (λ k. rises (g .levels) new) (applyOf g c)
+climber = otherwise (levelled (λ g c. toTheTop (target g c) (g .levels)))
 
 abbrev pub second-call : Call
 second-call = record { kind = Write; target = orderRecord (1 ∷ 3 ∷ 2 ∷ []) }
@@ -148,9 +165,9 @@ second-call = record { kind = Write; target = orderRecord (1 ∷ 3 ∷ 2 ∷ [])
 abbrev second-course : Rival
 second-course = record { levels = 3 ∷ 1 ∷ 2 ∷ replicate 9 0; caps = start .caps; pulses = 6 }
 
-pub climber-refuted : ¬ (Demand3 climber start (call ∷ second-call ∷ []))
+pub climber-refuted : ¬ (MeetsDemand3 climber)
 unfolding climber toTheTop latest after plainAfter entrant Moves Follows applyOf writeOf answer pushed rises numberOf isRow allAtMost orderRecord cellNumbers isOrderOf isListing isOrder eachOnce allZero fits raised raise lift singles floorOver top level put atMost Shows Reach
-climber-refuted d =
+climber-refuted =
     let second : Raised (1 ∷ 3 ∷ 2 ∷ []) course second-course =
     record {
       no-lower = at-most-true _ _ refl;
@@ -159,8 +176,43 @@ climber-refuted d =
       same-caps = refl;
       spent = refl;
     } in
+    fails climber (call ∷ second-call ∷ [])
+    (λ d.
     let high = at-most-level 1 (d .lowest (course ∷ second-course ∷ []) (next course-raised (next second rest))) in
-    omega arith
+    omega arith)
+
+-- one that pushes truly on the first write and later only copies the target: a group that is written is raised from levels 0. After the first
+-- write it shows [1, 3, 2] by 2, 0, 1: cell 2 has come down from 1
+pub copier : Machine
+copier = otherwise (λ g c t. cond (g .written) (levelled (λ g c. raise 1 (singles (target g c)) (replicate 12 0)) g c t) t)
+
+-- the second step of a course of two calls
+second-step : {run : Machine} {g p : Group} {r s t : Rival} {c d : Call} → Course run g p r (c ∷ d ∷ []) (s ∷ t ∷ [])
+    → let h = run g c .value .group in Moves (run h d .number) (d .kind) (target (plainAfter (run g c .number) p c) d) s t
+second-step (next a (next b rest)) = b
+
+-- its own course is none of the rivals
+pub copier-refuted : ¬ (MeetsDemand3 copier)
+unfolding copier own latest after plainAfter entrant Moves Follows applyOf writeOf answer pushed rises numberOf isRow allAtMost orderRecord cellNumbers isOrderOf isListing isOrder eachOnce allZero fits raised raise lift singles floorOver top level put atMost
+copier-refuted = fails copier (call ∷ second-call ∷ []) (λ d. let high = at-most-level 2 (second-step (d .ours) .no-lower) in omega arith)
+
+-- two that leave a record gone wrong, so that calls which come later are refused: one loses n, one never sets the mark
+pub spoiler : Machine
+spoiler = otherwise (λ g c. altered (λ h. record { n = 0; levels = h .levels; caps = h .caps; written = h .written }) (λ k. k))
+
+pub forgetter : Machine
+forgetter = otherwise (λ g c. altered (λ h. changed h (h .levels) (h .caps) false) (λ k. k))
+
+pub spoiler-refuted : ¬ (MeetsDemand3 spoiler)
+unfolding spoiler after plain plainAfter applyOf writeOf answer pushed rises numberOf isRow allAtMost orderRecord cellNumbers isOrderOf isListing isOrder eachOnce allZero fits raised raise lift singles floorOver top level put atMost
+spoiler-refuted = fails spoiler (call ∷ []) (λ d. let e : _≡_ {A = ℕ} 1 0 = d .accepted call .1 refl in omega arith)
+
+abbrev pub read-call : Call
+read-call = record { kind = Read; target = order }
+
+pub forgetter-refuted : ¬ (MeetsDemand3 forgetter)
+unfolding forgetter after plain plainAfter readOf sensed sorted insert above correction firstBelow isCodeword leaves weight coordinatesTo coordinateOf applyOf writeOf answer pushed rises numberOf isRow allAtMost orderRecord cellNumbers isOrderOf isListing isOrder eachOnce allZero fits raised raise lift singles floorOver top level put atMost
+forgetter-refuted = fails forgetter (call ∷ []) (λ d. let e : _≡_ {A = ℕ} 6 0 = d .accepted read-call .1 refl in omega arith)
 
 -- one that takes a lent list of any room
 byValue : Kind → Kind
@@ -179,9 +231,9 @@ crammer g c = applyOf g (record { kind = byValue (c .kind); target = c .target }
 abbrev pub short-call : Call
 short-call = record { kind = WriteInto 1; target = order }
 
-pub crammer-refuted : ¬ (Demand3 crammer start [])
-unfolding crammer byValue after numberOf isRow allAtMost
-crammer-refuted d = let e : _≡_ {A = ℕ} 10 0 = d .accepted short-call .0 (plain-answer .0) in omega arith
+pub crammer-refuted : ¬ (MeetsDemand3 crammer)
+unfolding crammer byValue after plain numberOf isRow allAtMost
+crammer-refuted = fails crammer [] (λ d. let e : _≡_ {A = ℕ} 10 0 = d .accepted short-call .0 (plain-answer .0) in omega arith)
 
 -- one that says worn before it reckons the new levels: where cell 1 stands at its cap. After the write, with cell 1 worn to its level, the
 -- same write raises nothing
@@ -194,9 +246,11 @@ worn-call = record { kind = Wear (record { 0 = 1 }) 2; target = order }
 abbrev worn-course : Rival
 worn-course = record { levels = least; caps = put (start .caps) 1 2; pulses = 3 }
 
-pub hasty-refuted : ¬ (Demand3 hasty start (call ∷ worn-call ∷ []))
-unfolding hasty Raisable latest after plain plainAfter entrant Moves Follows applyOf writeOf wearOf answer pushed rises numberOf isRow allAtMost orderRecord cellNumbers isOrderOf isListing isOrder eachOnce allZero fits raised raise lift singles floorOver top level put atMost Shows Reach
-hasty-refuted d =
+pub hasty-refuted : ¬ (MeetsDemand3 hasty)
+unfolding hasty Raisable latest after plain plainAfter entrant Moves Follows wearOf applyOf writeOf answer pushed rises numberOf isRow allAtMost orderRecord cellNumbers isOrderOf isListing isOrder eachOnce allZero fits raised raise lift singles floorOver top level put atMost Shows Reach
+hasty-refuted =
+    fails hasty (call ∷ worn-call ∷ [])
+    (λ d.
     d .worn-exactly call refl refl .0 refl (
       course ∷ worn-course ∷ [],
       next course-raised (next refl rest),
@@ -208,39 +262,20 @@ hasty-refuted d =
         same-caps = refl;
         spent = refl;
       },
-    )
-
--- one that pushes truly on the first write and later only copies the target: a group that is written is raised from levels 0. After the first
--- write it shows [1, 3, 2] by 2, 0, 1: cell 2 has come down from 1
-pub copier : Machine
-copier g c =
-    let new = raise 1 (singles (target g c)) (replicate 12 0) in
-    cond (writes (c .kind) && g .written) (altered (λ ls. new) (λ k. rises (g .levels) new) (applyOf g c)) (applyOf g c)
-
--- the second step of a course of two calls
-second-step : {run : Machine} {g p : Group} {r s t : Rival} {c d : Call} → Course run g p r (c ∷ d ∷ []) (s ∷ t ∷ [])
-    → let h = run g c .value .group in Moves (run h d .number) (d .kind) (target (plainAfter (run g c .number) p c) d) s t
-second-step (next a (next b rest)) = b
-
--- its own course is none of the rivals
-pub copier-refuted : ¬ (Demand3 copier start (call ∷ second-call ∷ []))
-unfolding copier own latest after plainAfter entrant Moves Follows applyOf writeOf answer pushed rises numberOf isRow allAtMost orderRecord cellNumbers isOrderOf isListing isOrder eachOnce allZero fits raised raise lift singles floorOver top level put atMost
-copier-refuted d = let high = at-most-level 2 (second-step (d .ours) .no-lower) in omega arith
+    ))
 
 -- one that holds only the target's top cell to its cap
 pub lax : Machine
 lax g c =
     let t = applyOf g c in
-    let new = raise 1 (singles (target g c)) (g .levels) in
     let first = getD (target g c) 0 0 in
-    cond (writes (c .kind) && eqb (t .number) 8 && leb (level new first) (level (g .caps) first))
-    (record { number = 0; value = altered (λ ls. new) (λ k. rises (g .levels) new) t .value })
-    t
+    let new = raise 1 (singles (target g c)) (g .levels) in
+    cond (writes (c .kind) && eqb (t .number) 8 && leb (level new first) (level (g .caps) first)) (record { number = 0; value = accept g c }) t
 
 abbrev pub spent-call : Call
 spent-call = record { kind = Wear (record { 0 = 2 }) 0; target = order }
 
 -- with cell 2 worn to 0 it takes the order [1, 2, 3], whose top cell has room
-pub lax-refuted : ¬ (Demand3 lax start (spent-call ∷ []))
-unfolding lax latest after plainAfter applyOf writeOf wearOf answer pushed rises numberOf isRow allAtMost orderRecord cellNumbers isOrderOf isListing isOrder eachOnce allZero fits raised raise lift singles floorOver top level put atMost
-lax-refuted d = let e : _≡_ {A = ℕ} 8 0 = d .accepted call .0 refl in omega arith
+pub lax-refuted : ¬ (MeetsDemand3 lax)
+unfolding lax after plain plainAfter wearOf applyOf writeOf answer pushed rises numberOf isRow allAtMost orderRecord cellNumbers isOrderOf isListing isOrder eachOnce allZero fits raised raise lift singles floorOver top level put atMost
+lax-refuted = fails lax (spent-call ∷ []) (λ d. let e : _≡_ {A = ℕ} 8 0 = d .accepted call .0 refl in omega arith)

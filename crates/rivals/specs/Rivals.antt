@@ -1,10 +1,11 @@
 -- Document 01, "The rivals of demand 3", and demand 3: one claim about every list of calls on one group.
 -- The claim is about any machine that answers calls. That ours meets it is the theorem `demand3-open` (proofs/Demand3) about `applyOf`, which is
--- the whole answer of the public function `apply` by its contract. Of a machine's answers it speaks of the number, the pulses and the group:
--- of its levels and caps beside the rivals', and of the whole record in the checks of the call that comes next. The symbol, the verdict and
--- the pushes are fixed by the contracts alone. A list of calls may hold writes into a lent list, of which a call has the room: both the machine's
--- answer to such a call and, by its contract, that of `push_list::write_into` are made of `writeIntoOf`, and are the same in what the claim speaks of
--- (`into-applied`, plain_machine, proofs/Machine). The lent list is no part of a rival.
+-- the whole answer of the public function `apply` by its contract. Of a machine's answers it speaks of the number, as far as it is 0 or 8, of the
+-- pulses, and of the group's levels and caps. The checks of the call that comes next are asked of the plain machine's record, so that a machine
+-- whose record goes wrong in n or the mark fails at a later call. The symbol, the verdict and the pushes are fixed by the contracts alone.
+-- A list of calls may hold writes into a lent list, of which a call has the room: both the machine's answer to such a call and, by its contract, that
+-- of `push_list::write_into` are made of `writeIntoOf`, and are the same in what the claim speaks of (`into-applied`, plain_machine, proofs/Machine).
+-- The lent list is no part of a rival.
 --
 --   Rival               a rival at one moment: levels and caps, as a group has them, and its pulses
 --   standing g q        our group, with q pulses so far, as a rival stands
@@ -127,7 +128,7 @@ module _ (run : Machine) where
 
   pub record Demand3 (g : Group) (cs : List Call) : Type 0 where
     -- number 0 is given exactly when nothing else in the refusal table applies
-    pub accepted : (c : Call) → (run (after g cs) c .number ≡ 0) ↔ (numberOf (checks (after g cs) c) ≡ 0)
+    pub accepted : (c : Call) → (run (after g cs) c .number ≡ 0) ↔ (numberOf (checks (plain g g cs) c) ≡ 0)
     -- no rival has any cell lower than ours
     pub lowest : (ss : List Rival) → IsRival g cs ss → AtMost (after g cs .levels) (latest (entrant g) ss .levels)
     -- every rival has spent at least as many pulses as our answers add up to
@@ -138,7 +139,7 @@ module _ (run : Machine) where
     pub exact : latest (entrant g) (own g 0 cs) .pulses ≡ pulsesOf g cs
     -- a write, store or scrub that comes next and passes the earlier checks is refused as worn exactly when no rival so far can be raised to
     -- show its target within the caps
-    pub worn-exactly : (c : Call) → writes (c .kind) ≡ true → numberOf (earlierChecks (after g cs) c) ≡ 0
+    pub worn-exactly : (c : Call) → writes (c .kind) ≡ true → numberOf (earlierChecks (plain g g cs) c) ≡ 0
         → (run (after g cs) c .number ≡ 8) ↔ (¬ (Raisable g cs (target (plain g g cs) c)))
 
   abbrev pub MeetsDemand3 : Type 0

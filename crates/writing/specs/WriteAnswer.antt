@@ -20,7 +20,7 @@ use Rattle.order.specs.declared.Refusal.the-variants.{NoOrder, Worn}
 use Rattle.order.specs.Refusals.{outcomeNumber, Told, answer}
 use Rattle.order.specs.Order.{listed, isOrderOf}
 use Rattle.group.specs.declared.Group.{Group}
-use Rattle.group.specs.Levels.{level, atMost, rises}
+use Rattle.group.specs.Levels.{atMost, rises}
 use Rattle.group.specs.Record.{groupChecks, programmed}
 use Rattle.writing.specs.declared.Push.{Push}
 use Rattle.writing.specs.declared.Written.{Written}

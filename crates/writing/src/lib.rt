@@ -150,7 +150,7 @@ fn is_within(levels: [u16; 12], caps: [u16; 12]) -> bool
     over == 0
 }
 
-// By how much a level is above a cap.
+// By how much a level is above a cap; 0 where it is not.
 fn excess(level: u16, cap: u16) -> u16
     ensures { λ r. ⌜ r ≡ level - cap ⌝ }
 {
