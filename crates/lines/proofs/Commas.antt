@@ -1,10 +1,11 @@
--- The levels of a group joined by commas, as `put_levels` puts them: after the first, one level at each turn.
+-- The levels of a group, as `put_levels` puts them: one at each turn, with its mark before it.
 -- Assumes nothing.
 use mathlib.Core.Path.{_≡_, refl, sym, ap, _∙_}
 use Prim.Native.Nat.{ℕ, zero, suc, _+_, _*_, _≤_, _<_}
 use native.Mathlib.Omega.{arith}
+use native.Mathlib.Numerals.{add-one}
 use mathlib.Core.List.{List, [], _∷_, _++_, append-assoc, append-nil}
-use lib.ListN.{length, getD, take, drop}
+use lib.ListN.{length, getD, take}
 use lib.Seq.{take-suc, take-all}
 use Rattle.lines.specs.Line.{decimal, after, afterCommas, levelText}
 use Rattle.lines.specs.Puts.{Puts}
@@ -16,83 +17,85 @@ commas-append [] y = append-nil (after 44 y)
 commas-append (x ∷ xs) y =
     ap (λ (t : List ℕ). after 44 x ++ t) (commas-append xs y) ∙ sym (append-assoc (after 44 x) (afterCommas xs) (after 44 y))
 
--- the levels after the first, up to i of them in all
-abbrev said : ℕ → List ℕ → List ℕ
-said i ls = afterCommas (drop 1 (take i ls))
+-- each level with its mark before it
+abbrev marked : List ℕ → List ℕ
+marked [] = []
+marked (x ∷ xs) = 32 ∷ levelText (x ∷ xs)
 
-said-more : (i : ℕ) (ls : List ℕ) → 1 ≤ i → i < length ls → said (i + 1) ls ≡ said i ls ++ after 44 (getD ls i 0)
-said-more zero ls l h = absurd (omega arith)
-said-more (suc j) [] l h = absurd (omega arith)
-said-more (suc j) (x ∷ xs) l h =
+-- the mark before level i: a blank at the first, a comma at the others
+abbrev markOf : ℕ → ℕ
+markOf zero = 32
+markOf (suc i) = 44
+
+marked-more : (i : ℕ) (ls : List ℕ) → i < length ls → marked (take (i + 1) ls) ≡ marked (take i ls) ++ after (markOf i) (getD ls i 0)
+marked-more i [] h = absurd (omega arith)
+marked-more zero (x ∷ xs) h = append-nil (after 32 x)
+marked-more (suc j) (x ∷ xs) h =
     let more : suc j + 1 ≡ suc (suc j) = omega arith in
-    rw more (ap afterCommas (take-suc xs j 0 (omega arith)) ∙ commas-append (take j xs) (getD xs j 0))
+    rw more
+    (ap (λ (t : List ℕ). after 32 x ++ t) (ap afterCommas (take-suc xs j 0 (omega arith)) ∙ commas-append (take j xs) (getD xs j 0))
+    ∙ sym (append-assoc (after 32 x) (afterCommas (take j xs)) (after 44 (getD xs j 0))))
 
--- with the first, they are the levels' text
-first-said : (i : ℕ) (ls : List ℕ) → 1 ≤ i → 1 ≤ length ls → decimal (getD ls 0 0) ++ said i ls ≡ levelText (take i ls)
-first-said zero ls l h = absurd (omega arith)
-first-said (suc j) [] l h = absurd (omega arith)
-first-said (suc j) (x ∷ xs) l h = refl
+-- where there is a level, this is a blank and the levels' text
+marked-some : (n : ℕ) (ls : List ℕ) → 1 ≤ n → 1 ≤ length ls → marked (take n ls) ≡ 32 ∷ levelText (take n ls)
+marked-some zero ls l h = absurd (omega arith)
+marked-some (suc n) [] l h = absurd (omega arith)
+marked-some (suc n) (x ∷ xs) l h = refl
 
--- the loop: from the buffer first and the place from, after the first level's text, i levels have been put
-pub record Joining (first : List ℕ) (from n : ℕ) (ls now : List ℕ) (end i : ℕ) : Type 0 where
+-- the loop: into the buffer first, from the place at on, i levels of those asked for have been put
+pub record Joining (first : List ℕ) (at cells : ℕ) (ls now : List ℕ) (end mark i : ℕ) : Type 0 where
   pub twelve : length ls ≡ 12
-  pub some : 1 ≤ i
-  pub reached : i ≤ n
-  pub within : i ≤ 12
-  pub room : from + 66 ≤ length first
-  pub short-of : end + 6 ≤ from + 6 * i
-  pub puts : Puts first now from end (said i ls)
+  pub few : cells ≤ 12
+  pub reached : i ≤ cells
+  pub room : at + 72 ≤ length first
+  pub short-of : end ≤ at + 6 * i
+  pub marks : mark ≡ markOf i
+  pub puts : Puts first now at end (marked (take i ls))
 
-pub joining-starts : {first ls : List ℕ} {from n : ℕ} → length ls ≡ 12 → 1 ≤ n → from + 66 ≤ length first → Joining first from n ls first from 1
-joining-starts {first} {ls} {from} {n} t l r =
+pub joining-starts : {first ls : List ℕ} {at cells : ℕ} → length ls ≡ 12 → cells ≤ 12 → at + 72 ≤ length first → Joining first at cells ls first at 32 0
+joining-starts {first} {ls} {at} t f r =
     record {
       twelve = t;
-      some = omega arith;
-      reached = l;
-      within = omega arith;
+      few = f;
+      reached = omega arith;
       room = r;
       short-of = omega arith;
-      puts = puts-as (sym (said-none ls)) (puts-none first from (omega arith));
+      marks = refl;
+      puts = puts-none first at (omega arith);
     }
-  where
-    said-none : (xs : List ℕ) → said 1 xs ≡ []
-    said-none [] = refl
-    said-none (x ∷ xs) = refl
 
 -- there is room for one more
-pub joining-room : {first ls now : List ℕ} {from n end i : ℕ} → Joining first from n ls now end i → i < 12 → end + 6 ≤ length now
-joining-room j h = omega (arith, j .room, j .short-of, j .puts .kept)
+pub joining-room : {first ls now : List ℕ} {at cells end mark i : ℕ} → Joining first at cells ls now end mark i → i < cells → end + 6 ≤ length now
+joining-room j h = omega (arith, j .few, j .room, j .short-of, j .puts .kept)
 
-pub joining-steps : {first ls now later : List ℕ} {from n end next i level : ℕ}
-    → Joining first from n ls now end i → i < n → i < 12 → level ≡ getD ls i 0 → level < 65536
-    → Puts now later end next (after 44 level) → Joining first from n ls later next (i + 1)
-joining-steps {first} {ls} {now} {later} {from} {n} {end} {next} {i} {level} j l h e b p =
-    let digits : length (decimal level) ≤ 5 = short 4 65536 b tt in
+pub joining-steps : {first ls now later : List ℕ} {at cells end mark next i : ℕ}
+    → Joining first at cells ls now end mark i → i < cells → getD ls i 0 < 65536
+    → Puts now later end next (after mark (getD ls i 0)) → Joining first at cells ls later next 44 (i + 1)
+joining-steps {ls = ls} {i = i} j l b p =
+    let digits : length (decimal (getD ls i 0)) ≤ 5 = short 4 65536 b tt in
     record {
       twelve = j .twelve;
-      some = omega arith;
+      few = j .few;
       reached = omega arith;
-      within = omega arith;
       room = j .room;
       short-of = omega (arith, digits, j .short-of, p .ends);
+      marks = rw (add-one i) refl;
       puts =
           puts-as
-          (ap (λ (k : ℕ). said i ls ++ after 44 k) e ∙ sym (said-more i ls (j .some) (omega (arith, j .twelve))))
+          (ap (λ (m : ℕ). marked (take i ls) ++ after m (getD ls i 0)) (j .marks) ∙ sym (marked-more i ls (omega (arith, j .twelve, j .few))))
           (puts-join (j .puts) p);
     }
 
--- where the loop ends, the first i levels are those of cells 1 to n
-pub joining-ends : {before first ls now : List ℕ} {at from n end i level : ℕ}
-    → level ≡ getD ls 0 0 → Puts before first at from (decimal level) → Joining first from n ls now end i → take i ls ≡ take n ls
-    → Puts before now at end (levelText (take n ls))
-joining-ends {ls = ls} {i = i} e p j t =
-    puts-as
-    (ap (λ (k : ℕ). decimal k ++ said i ls) e ∙ first-said i ls (j .some) (omega (arith, j .twelve)) ∙ ap levelText t)
-    (puts-join p (j .puts))
+-- where the loop ends, the levels are those of cells 1 to n
+pub joining-ends : {first ls now : List ℕ} {at cells n end mark i : ℕ}
+    → Joining first at cells ls now end mark i → cells ≤ i → take cells ls ≡ take n ls → 1 ≤ n
+    → Puts first now at end (32 ∷ levelText (take n ls)) × (end ≤ at + 72)
+joining-ends {ls = ls} {cells = cells} {n = n} {i = i} j l t s =
+    let all : i ≡ cells = omega (arith, j .reached) in (
+      puts-as (ap (λ (k : ℕ). marked (take k ls)) all ∙ ap marked t ∙ marked-some n ls s (omega (arith, j .twelve))) (j .puts),
+      omega (arith, j .short-of, j .reached, j .few),
+    )
 
-pub all-reached : {first ls now : List ℕ} {from n end i : ℕ} → Joining first from n ls now end i → n ≤ i → take i ls ≡ take n ls
-all-reached {ls = ls} {n = n} {i = i} j h = let e : i ≡ n = omega (arith, j .reached) in ap (λ (k : ℕ). take k ls) e
-
-pub twelve-reached : {first ls now : List ℕ} {from n end i : ℕ} → Joining first from n ls now end i → 12 ≤ i → take i ls ≡ take n ls
-twelve-reached {ls = ls} {n = n} {i = i} j h =
-    take-all i ls (omega (arith, j .twelve)) ∙ sym (take-all n ls (omega (arith, j .twelve, j .reached)))
+-- cells past the twelve have no level
+pub twelve-all : (ls : List ℕ) (n : ℕ) → length ls ≡ 12 → 12 ≤ n → take 12 ls ≡ take n ls
+twelve-all ls n t h = take-all 12 ls (omega (arith, t)) ∙ sym (take-all n ls (omega (arith, t)))

@@ -77,6 +77,13 @@ puts-join {a} {b} {c} {t} {u} {at} {mid} {end} p q =
       ends = omega arith;
     }
 
+-- a byte before a text, and one after it
+pub puts-first : {xs later t : List ℕ} {at b end : ℕ} → at < length xs → Puts (set xs at b) later (at + 1) end t → Puts xs later at end (b ∷ t)
+puts-first {xs} {at = at} {b = b} h p = puts-join (puts-byte xs at b h) p
+
+pub puts-last : {xs ys t : List ℕ} {at end : ℕ} (b : ℕ) → end < length ys → Puts xs ys at end t → Puts xs (set ys end b) at (end + 1) (t ++ b ∷ [])
+puts-last {ys = ys} {end = end} b h p = puts-join p (puts-byte ys end b h)
+
 pub puts-two : (xs : List ℕ) (at : ℕ) {b c d e : ℕ} → at + 2 ≤ length xs → b ≡ d → c ≡ e
     → Puts xs (set (set xs at b) (at + 1) c) at (at + 2) (d ∷ e ∷ [])
 puts-two xs at {b} {c} h p q =

@@ -23,14 +23,22 @@ const BLANK: u8 = 32;
 
 const COMMA: u8 = 44;
 
-const DASH: u8 = 45;
-
 const LINE_FEED: u8 = 10;
 
-// Two digits 0, and a blank and a digit 0, as one number each, low byte first.
+// Two bytes as one number, low byte first: two digits 0, a blank and a digit 0, a blank and a dash, and the letters of `left` and `sum`.
 const ZEROS: u32 = 48 + 256 * 48;
 
 const BLANK_ZERO: u32 = 32 + 256 * 48;
+
+const BLANK_DASH: u32 = 32 + 256 * 45;
+
+const EF: u32 = 101 + 256 * 102;
+
+const T_BLANK: u32 = 116 + 256 * 32;
+
+const SU: u32 = 115 + 256 * 117;
+
+const M_BLANK: u32 = 109 + 256 * 32;
 
 // A record's line.
 pub fn put_line(out: &mut [u8], from: u32, position: u32, kind: u8, a: Answered) -> usize
@@ -45,12 +53,11 @@ pub fn put_line(out: &mut [u8], from: u32, position: u32, kind: u8, a: Answered)
     if out.len() < at + LINE_ROOM {
         return at;
     }
-    let group = a.group;
-    let levels = group.levels;
+    let levels = a.group.levels;
     let mut end = put_numbers(out, at, position, kind, number, a.symbol, a.pulses);
-    end = put_byte(out, end, BLANK);
-    end = put_levels(out, end, group.n, levels);
-    put_byte(out, end, LINE_FEED)
+    end = put_levels(out, end, a.group.n, levels);
+    out[end] = LINE_FEED;
+    end + 1
 }
 
 // The numbers of a line, up to the levels.
@@ -84,31 +91,30 @@ fn put_field(out: &mut [u8], at: usize, n: u32) -> usize
         let both = BLANK_ZERO + 256 * n;
         return put_two(out, at, both);
     }
-    put_after(out, at, BLANK, n as u64)
+    out[at] = BLANK;
+    put_number(out, at + 1, n as u64)
 }
 
-// The levels of cells 1 to n, joined by commas.
+// A blank, and the levels of cells 1 to n after it, joined by commas.
 fn put_levels(out: &mut [u8], at: usize, n: usize, levels: [u16; 12]) -> usize
     requires { ⌜ at + 72 ≤ length (now out) ⌝ }
-    ensures { λ r. ⌜ Puts (now (out .entry)) (now (out .exit)) at r (levelText (take n levels)) ⌝ }
+    ensures { λ r. ⌜ Puts (now (out .entry)) (now (out .exit)) at r (32 ∷ levelText (take n levels)) ⌝ }
     ensures { λ r. ⌜ r ≤ at + 72 ⌝ }
 {
     if n == 0 {
-        return put_byte(out, at, DASH);
+        return put_two(out, at, BLANK_DASH);
     }
-    let mut end = put_number(out, at, level_number(levels[0]));
-    let mut i = 1;
-    while i < n && i < 12 {
-        end = put_after(out, end, COMMA, level_number(levels[i]));
+    let cells = if n < 12 { n } else { 12 };
+    let mut end = at;
+    let mut mark = BLANK;
+    let mut i = 0;
+    while i < cells {
+        out[end] = mark;
+        end = put_number(out, end + 1, levels[i] as u64);
+        mark = COMMA;
         i += 1;
     }
     end
-}
-
-fn level_number(level: u16) -> u64
-    ensures { λ r. ⌜ (r ≡ level) × (r < 65536) ⌝ }
-{
-    level as u64
 }
 
 // The line of the leftover bytes, if there are any.
@@ -124,12 +130,8 @@ pub fn put_left(out: &mut [u8], from: u32, left: usize) -> usize
     if left == 0 {
         return at;
     }
-    let mut end = put_byte(out, at, b'l');
-    end = put_byte(out, end, b'e');
-    end = put_byte(out, end, b'f');
-    end = put_byte(out, end, b't');
-    end = put_after(out, end, BLANK, left as u64);
-    put_byte(out, end, LINE_FEED)
+    out[at] = b'l';
+    put_named(out, at + 1, EF, T_BLANK, left as u64)
 }
 
 // The line of all pulses.
@@ -142,20 +144,20 @@ pub fn put_sum(out: &mut [u8], from: u32, pulses: u64) -> usize
     if out.len() < at + SUM_ROOM {
         return at;
     }
-    let mut end = put_byte(out, at, b's');
-    end = put_byte(out, end, b'u');
-    end = put_byte(out, end, b'm');
-    end = put_after(out, end, BLANK, pulses);
-    put_byte(out, end, LINE_FEED)
+    put_named(out, at, SU, M_BLANK, pulses)
 }
 
-// A mark, and a number after it.
-fn put_after(out: &mut [u8], at: usize, mark: u8, n: u64) -> usize
-    requires { ⌜ at + length (after mark n) ≤ length (now out) ⌝ }
-    ensures { λ r. ⌜ Puts (now (out .entry)) (now (out .exit)) at r (after mark n) ⌝ }
+// The end of a line that is a word and a number: two letters, a letter and a blank, the number, and a line feed.
+fn put_named(out: &mut [u8], at: usize, letters: u32, last: u32, n: u64) -> usize
+    requires { ⌜ (letters < 65536) × (last < 65536) × (at + 25 ≤ length (now out)) ⌝ }
+    ensures { λ r. ⌜ Puts (now (out .entry)) (now (out .exit)) at r (letters % 256 ∷ letters / 256 ∷ last % 256 ∷ last / 256 ∷ decimal n ++ 10 ∷ []) ⌝ }
+    ensures { λ r. ⌜ r ≤ at + 25 ⌝ }
 {
-    let end = put_byte(out, at, mark);
-    put_number(out, end, n)
+    let mut end = put_two(out, at, letters);
+    end = put_two(out, end, last);
+    end = put_number(out, end, n);
+    out[end] = LINE_FEED;
+    end + 1
 }
 
 // A number in base ten. Most have four digits at most, and are put without recursion.
@@ -175,12 +177,14 @@ fn put_long(out: &mut [u8], at: usize, n: u64) -> usize
     ensures { λ r. ⌜ Puts (now (out .entry)) (now (out .exit)) at r (decimal n) ⌝ }
 {
     let high = n / 10000;
-    let end = if high < 10000 {
+    let mut end = if high < 10000 {
         put_short(out, at, high as u32)
     } else {
         put_long(out, at, high)
     };
-    put_four(out, end, (n % 10000) as u32)
+    let low = (n % 10000) as u32;
+    end = put_pair(out, end, low / 100);
+    put_pair(out, end, low % 100)
 }
 
 // A number of four digits at most.
@@ -201,18 +205,10 @@ fn put_small(out: &mut [u8], at: usize, n: u32) -> usize
     ensures { λ r. ⌜ Puts (now (out .entry)) (now (out .exit)) at r (decimal n) ⌝ }
 {
     if n < 10 {
-        return put_byte(out, at, digit(n));
+        out[at] = (48 + n) as u8;
+        return at + 1;
     }
     put_pair(out, at, n)
-}
-
-// Four digits.
-fn put_four(out: &mut [u8], at: usize, n: u32) -> usize
-    requires { ⌜ (n < 10000) × (at + 4 ≤ length (now out)) ⌝ }
-    ensures { λ r. ⌜ Puts (now (out .entry)) (now (out .exit)) at r (pair (n / 100) ++ pair (n % 100)) ⌝ }
-{
-    let end = put_pair(out, at, n / 100);
-    put_pair(out, end, n % 100)
 }
 
 // Two digits.
@@ -232,19 +228,4 @@ fn put_two(out: &mut [u8], at: usize, both: u32) -> usize
     out[at] = (both % 256) as u8;
     out[at + 1] = (both / 256) as u8;
     at + 2
-}
-
-fn digit(n: u32) -> u8
-    requires { ⌜ n < 10 ⌝ }
-    ensures { λ r. ⌜ r ≡ 48 + n ⌝ }
-{
-    48 + n as u8
-}
-
-fn put_byte(out: &mut [u8], at: usize, b: u8) -> usize
-    requires { ⌜ at < length (now out) ⌝ }
-    ensures { λ r. ⌜ Puts (now (out .entry)) (now (out .exit)) at r (b ∷ []) ⌝ }
-{
-    out[at] = b;
-    at + 1
 }

@@ -12,8 +12,8 @@ use Rattle.lines.proofs.Paste.{puts-join, puts-as}
 use Rattle.lines.proofs.Decimal.{decimal-last-four, last-four-length}
 use Rattle.lines.proofs.put_short.Reads as put-short
 use Rattle.lines.proofs.put_short.Kinds as put-short-kinds
-use Rattle.lines.proofs.put_four.Reads as put-four
-use Rattle.lines.proofs.put_four.Kinds as put-four-kinds
+use Rattle.lines.proofs.put_pair.Reads as put-pair
+use Rattle.lines.proofs.put_pair.Kinds as put-pair-kinds
 use Rattle.lines.proofs.put_long.Reads as reads
 use Rattle.lines.proofs.put_long.Kinds as kinds
 use Rattle.lines.proofs.+put_long.Lts-put_long as lts
@@ -36,9 +36,9 @@ abbrev calls :
     × Out 1 put-short-kinds.ps put-short-kinds.r
     × In 1 kinds.ps
     × Out 1 kinds.ps kinds.r
-    × In 1 put-four-kinds.ps
-    × Out 1 put-four-kinds.ps put-four-kinds.r
-calls t = (put-short.Asked, put-short.Learnt, below t, reads.Post, put-four.Asked, put-four.Learnt)
+    × In 1 put-pair-kinds.ps
+    × Out 1 put-pair-kinds.ps put-pair-kinds.r
+calls t = (put-short.Asked, put-short.Learnt, below t, reads.Post, put-pair.Asked, put-pair.Learnt)
 
 cast-put-short : (t : ℕ) → lts.Need-cast-put-short (calls t) (given t) reads.Post
 cast-put-short t c = omega (arith, c .before .if1 .taken)
@@ -62,20 +62,29 @@ high-put t j =
       | inr l ↦ rw (l .5, l .6) (l .2 .ensures)
     ]
 
-cast-put-four : (t : ℕ) → lts.Need-cast-put-four (calls t) (given t) reads.Post
-cast-put-four t c = omega arith
+cast-low : (t : ℕ) → lts.Need-cast-low (calls t) (given t) reads.Post
+cast-low t c = omega arith
 
-put-four-requires : (t : ℕ) → lts.Need-put-four-requires (calls t) (given t) reads.Post
-put-four-requires t c κs =
+put-pair-requires : (t : ℕ) → lts.Need-put-pair-requires (calls t) (given t) reads.Post
+put-pair-requires t c κs =
     let entry = c .before .before .before in
     let high = high-put t (c .before) in
     (omega arith, omega (arith, entry .pre .1 .1, last-four-length _ (entry .pre .1 .0), high .ends, high .kept))
 
+put-pair-requires-2 : (t : ℕ) → lts.Need-put-pair-requires-2 (calls t) (given t) reads.Post
+put-pair-requires-2 t c κs =
+    let p = c .before .before .before in
+    let j = p .before .before in
+    let entry = j .before .before in
+    let all = puts-join (high-put t j) (p .put-pair .ensures) in
+    (omega arith, omega (arith, entry .pre .1 .1, last-four-length _ (entry .pre .1 .0), high-put t j .ends, p .put-pair .ensures .ends, all .kept))
+
 returns : (t : ℕ) → lts.Need-returns (calls t) (given t) reads.Post
 returns t c =
-    let f = c .before .before in
-    let j = f .before .before in
-    puts-as (sym (decimal-last-four _ (j .before .before .pre .1 .0))) (puts-join (high-put t j) (f .put-four .ensures))
+    let l = c .before .before in
+    let h = l .before .before .before .before in
+    let j = h .before .before in
+    puts-as (sym (decimal-last-four _ (j .before .before .pre .1 .0))) (puts-join (high-put t j) (puts-join (h .put-pair .ensures) (l .put-pair2 .ensures)))
 
 same-length : (t : ℕ) → lts.Need-same-length (calls t) (given t) reads.Post
 same-length t c = returns t c .kept
@@ -85,7 +94,8 @@ pub +put-long-spec : {M : Type 1} → statement M
     (cast-put-short t)
     (put-short-requires t)
     (put-long-requires t)
-    (cast-put-four t)
-    (put-four-requires t)
+    (cast-low t)
+    (put-pair-requires t)
+    (put-pair-requires-2 t)
     (same-length t)
     (returns t)

@@ -1,13 +1,13 @@
 -- `lines::put_left` meets its contract.
 -- Assumes nothing.
 use borrow.Author.Needs.{needs}
-use mathlib.Core.Path.{_≡_, refl}
-use Prim.Native.Nat.{ℕ, zero, suc, _^_}
+use mathlib.Core.Path.{_≡_, refl, _∙_}
+use Prim.Native.Nat.{ℕ, zero, suc}
 use native.Mathlib.Omega.{arith}
 use mathlib.Core.List.{[], _∷_, _++_}
+use lib.ListN.{length-set}
 use Rattle.lines.specs.Line.{after, leftLine}
-use Rattle.lines.proofs.Paste.{puts-none, puts-join, puts-as}
-use Rattle.lines.proofs.Decimal.{short}
+use Rattle.lines.proofs.Paste.{puts-none, puts-first, puts-as}
 use Rattle.lines.proofs.InRoom.{none-put, line-put}
 use Rattle.lines.proofs.put_left.Statement.{statement}
 use Rattle.lines.proofs.put_left.Tie as tie
@@ -30,58 +30,25 @@ returns-2 c =
     let room = c .before .if1 .left in
     line-put _ _ _ _ (omega (arith, room)) (puts-as (none _ (c .if2 .taken)) (puts-none _ _ (omega (arith, room)))) (omega arith)
 
-put-after-requires : tie.Need-put-after-requires
-put-after-requires c κs =
-    let t = c .before .before .before in
-    let f = t .before .before .before .before in
-    let e = f .before .before .before .before in
-    let l = e .before .before .before .before in
-    let s = l .before .before in
-    let digits = short 19 (2 ^ 64) (s .before .before .before .fits .left .fits) tt in
-    let all = puts-join (puts-join (puts-join (l .put-byte .ensures) (e .put-byte2 .ensures)) (f .put-byte3 .ensures)) (t .put-byte4 .ensures) in
-    omega (arith, digits, s .before .if1 .left, all .ends, all .kept)
+slice-write-out : tie.Need-slice-write-out
+slice-write-out c = omega (arith, c .before .if1 .left)
 
-put-byte-requires-5 : tie.Need-put-byte-requires-5
-put-byte-requires-5 c κs =
-    let a = c .before .before .before in
-    let t = a .before .before .before .before in
-    let f = t .before .before .before .before in
-    let e = f .before .before .before .before in
-    let l = e .before .before .before .before in
-    let s = l .before .before in
-    let digits = short 19 (2 ^ 64) (s .before .before .before .fits .left .fits) tt in
-    let all = puts-join (puts-join (puts-join (puts-join (l .put-byte .ensures) (e .put-byte2 .ensures)) (f .put-byte3 .ensures)) (t .put-byte4 .ensures)) (a .put-after .ensures) in
-    omega (arith, digits, s .before .if1 .left, all .ends, all .kept)
+put-named-requires : tie.Need-put-named-requires
+put-named-requires c κs = (omega arith, omega arith, simp length-set (omega (arith, c .before .before .if1 .left)))
+
+same-length : tie.Need-same-length
+same-length c = c .before .before .put-named .ensures .0 .kept ∙ simp length-set
 
 returns-3 : tie.Need-returns-3
 returns-3 c =
     let n = c .before .before in
-    let a = n .before .before .before .before in
-    let t = a .before .before .before .before in
-    let f = t .before .before .before .before in
-    let e = f .before .before .before .before in
-    let l = e .before .before .before .before in
-    let s = l .before .before in
-    let digits = short 19 (2 ^ 64) (s .before .before .before .fits .left .fits) tt in
-    let all =
-    puts-join
-    (puts-join (puts-join (puts-join (puts-join (l .put-byte .ensures) (e .put-byte2 .ensures)) (f .put-byte3 .ensures)) (t .put-byte4 .ensures)) (a .put-after .ensures))
-    (n .put-byte5 .ensures) in
-    line-put _ _ _ _ (omega (arith, s .before .if1 .left)) (puts-as (some _ (s .if2 .left)) all)
-    (omega (arith, digits, n .put-byte5 .ensures .ends, a .put-after .ensures .ends, t .put-byte4 .ensures .ends, f .put-byte3 .ensures .ends, e .put-byte2 .ensures .ends, l .put-byte .ensures .ends))
+    let s = n .before .before in
+    line-put _ _ _ _
+    (omega (arith, s .before .if1 .left))
+    (puts-as (some _ (s .if2 .left)) (puts-first {xs = s .before .before .before .args .out .now} (slice-write-out s) (n .put-named .ensures .0)))
+    (omega (arith, n .put-named .ensures .1))
 
 pub put-left-spec : {M : Type 1} → statement M
 put-left-spec =
     tie.close
-    (tie.spec
-    (λ c. search needs)
-    returns
-    returns-2
-    (λ c κs. search needs)
-    (λ c κs. search needs)
-    (λ c κs. search needs)
-    (λ c κs. search needs)
-    put-after-requires
-    put-byte-requires-5
-    (λ c. search needs)
-    returns-3)
+    (tie.spec (λ c. search needs) returns returns-2 slice-write-out (λ c. search needs) put-named-requires same-length returns-3)

@@ -1,100 +1,95 @@
 -- `lines::put_levels` meets its contract.
 -- Assumes nothing.
 use borrow.Author.Needs.{needs}
-use mathlib.Core.Path.{_≡_}
-use Prim.Native.Nat.{_-_, _+_, _≤_, _<_}
-use lib.ListN.{length, take}
-use borrow.Author.Tests.{ltb-true, ltb-false}
+use mathlib.Core.Path.{_≡_, refl}
+use mathlib.Core.Logic.{⊎-elim}
+use Prim.Native.Nat.{ℕ, _-_, _≤_, _<_}
+use lib.ListN.{length, getD, take, length-set}
+use mir.Syntax.{w16}
+use mir.Val.{Fits}
 use native.Mathlib.Omega.{arith}
-use Rattle.lines.specs.Line.{levelText}
-use Rattle.lines.specs.Puts.{Puts}
+use Rattle.lines.proofs.Paste.{puts-first}
 use Rattle.lines.proofs.Decimal.{short}
-use Rattle.lines.proofs.Commas.{Joining, joining-starts, joining-room, joining-steps, joining-ends, all-reached, twelve-reached}
+use Rattle.lines.proofs.Commas.{Joining, joining-starts, joining-room, joining-steps, joining-ends, twelve-all}
 use Rattle.lines.proofs.put_levels.Statement.{statement}
 use Rattle.lines.proofs.put_levels.Tie as tie
 
 abbrev Inv-loop : tie.InvT-loop
-Inv-loop out₀ at n levels end₀ i₀ out end i = Joining out₀ end₀ n levels out end i
+Inv-loop out₀ at n levels cells end₀ mark₀ i₀ out end mark i = Joining out₀ at cells levels out end mark i
 
 abbrev μ-loop : tie.MeasureT-loop
-μ-loop out₀ at n levels end₀ i₀ out end i = 12 - i
+μ-loop out₀ at n levels cells end₀ mark₀ i₀ out end mark i = 12 - i
 
--- there are twelve levels
+-- there are twelve levels, of 16 bits each
 twelve : (c : tie.Start Inv-loop μ-loop) → length (c .args .t4) ≡ 12
 twelve c = search needs
 
+small : (c : tie.Start Inv-loop μ-loop) (i : ℕ) → getD (c .args .t4) i 0 < 65536
+small c i = let level : Fits w16 (getD (c .args .t4) i 0) = search needs in level .fits
+
 returns : tie.Need-returns Inv-loop μ-loop
 returns c =
-    let b = c .before .before in
-    let none = b .before .before .if1 .taken in
-    (rw none (b .put-byte .ensures), omega (arith, b .put-byte .ensures .ends))
+    let d = c .before .before in
+    (rw (d .before .before .if1 .taken) (d .put-two .ensures), omega (arith, d .put-two .ensures .ends))
 
-put-number-requires : tie.Need-put-number-requires Inv-loop μ-loop
-put-number-requires c κs =
-    let digits = short 4 65536 (c .level-number .ensures .1) tt in
-    omega (arith, digits, c .before .before .before .before .pre)
+same-length : tie.Need-same-length Inv-loop μ-loop
+same-length c = returns c .0 .kept
+
+-- the cells whose levels are put
+cells : (c : tie.Joined2 Inv-loop μ-loop) →
+    let a = c .before .before .before .args in (c .if2 .cells ≤ 12) × (take (c .if2 .cells) (a .t4) ≡ take (a .n) (a .t4))
+cells c =
+    let entry = c .before .before .before in
+    ⊎-elim
+    (λ w. rw (w .1) (omega (arith, w .0 .taken), refl))
+    (λ w. rw (w .1) (omega arith, twelve-all (entry .args .t4) (entry .args .n) (twelve entry) (w .0 .left)))
+    (c .if2 .came)
 
 loop-holds : tie.Need-loop-holds Inv-loop μ-loop
 loop-holds c =
-    let f = c .before .before in
-    let e = f .before .before .before in
-    let digits = short 4 65536 (f .before .level-number .ensures .1) tt in
-    joining-starts
-    (twelve (e .before .before))
-    (omega (arith, e .if1 .left))
-    (omega (arith, digits, e .before .before .pre, f .put-number .ensures .ends, f .put-number .ensures .kept))
+    let entry = c .before .before .before in
+    joining-starts (twelve entry) (cells c .0) (entry .pre)
 
 -- the place at hand is one of the twelve
-below : (c : tie.Then2 Inv-loop μ-loop) → c .before .before .loop .i < 12
-below c = ltb-true _ _ (c .if2 .taken)
+below : (c : tie.In-loop Inv-loop μ-loop) → c .before .loop .i < 12
+below c = omega (arith, c .loop-test .taken, c .before .loop .inv .few)
 
-mul-level-number : tie.Need-mul-level-number Inv-loop μ-loop
-mul-level-number c = let low = below (c .before) in omega arith
+slice-write-out : tie.Need-slice-write-out Inv-loop μ-loop
+slice-write-out c = omega (arith, joining-room (c .before .loop .inv) (c .loop-test .taken))
 
-put-after-requires : tie.Need-put-after-requires Inv-loop μ-loop
-put-after-requires c κs =
-    let t = c .before .before in
-    let digits = short 4 65536 (c .level-number2 .ensures .1) tt in
-    omega (arith, digits, joining-room (t .before .before .loop .inv) (below t))
+mul-put-number : tie.Need-mul-put-number Inv-loop μ-loop
+mul-put-number c = let low = below (c .before) in omega arith
+
+array-read-put-number : tie.Need-array-read-put-number Inv-loop μ-loop
+array-read-put-number c = let low = below (c .before) in search needs
+
+put-number-requires : tie.Need-put-number-requires Inv-loop μ-loop
+put-number-requires c κs =
+    let t = c .before in
+    let digits = short 4 65536 (small (t .before .before .before .before .before) (t .before .loop .i)) tt in
+    simp length-set (omega (arith, digits, joining-room (t .before .loop .inv) (t .loop-test .taken)))
 
 loop-less : tie.Need-loop-less Inv-loop μ-loop
-loop-less c = let low = below (c .before .before .before .before .before) in omega arith
+loop-less c = let low = below (c .before .before .before .before) in omega arith
 
 loop-again : tie.Need-loop-again Inv-loop μ-loop
 loop-again c =
-    let a = c .before .before in
-    let t = a .before .before .before in
+    let p = c .before .before in
+    let t = p .before .before in
     joining-steps
-    (t .before .before .loop .inv)
-    (t .before .loop-test .taken)
-    (below t)
-    (a .before .level-number2 .ensures .0)
-    (a .before .level-number2 .ensures .1)
-    (a .put-after .ensures)
-
--- the levels that were put, where they are those of cells 1 to n
-ends : (c : tie.At-loop Inv-loop μ-loop) →
-    let s = c .before .before .before .before .before .before .before .before in
-    take (c .loop .i) (s .args .t4) ≡ take (s .args .n) (s .args .t4)
-    → Puts (s .args .out .now) (c .loop .out) (s .args .at) (c .loop .end) (levelText (take (s .args .n) (s .args .t4))) × (c .loop .end ≤ s .args .at + 72)
-ends c t =
-    let f = c .before .before .before in
-    let digits = short 4 65536 (f .before .level-number .ensures .1) tt in (
-      joining-ends (f .before .level-number .ensures .0) (f .put-number .ensures) (c .loop .inv) t,
-      omega (arith, digits, f .put-number .ensures .ends, c .loop .inv .short-of, c .loop .inv .within),
-    )
+    (t .before .loop .inv)
+    (t .loop-test .taken)
+    (small (t .before .before .before .before .before) (t .before .loop .i))
+    (puts-first (slice-write-out t) (p .put-number .ensures))
 
 returns-2 : tie.Need-returns-2 Inv-loop μ-loop
-returns-2 c = ends (c .before .before) (twelve-reached (c .before .before .loop .inv) (ltb-false _ _ (c .if2 .left)))
+returns-2 c =
+    let l = c .before in
+    let some = l .before .before in
+    joining-ends {n = some .before .before .args .n} (l .loop .inv) (c .loop-test .left) (cells (l .before) .1) (omega (arith, some .if1 .left))
 
 same-length-2 : tie.Need-same-length-2 Inv-loop μ-loop
-same-length-2 c = (returns-2 c .0) .kept
-
-returns-3 : tie.Need-returns-3 Inv-loop μ-loop
-returns-3 c = ends (c .before) (all-reached (c .before .loop .inv) (c .loop-test .left))
-
-same-length-3 : tie.Need-same-length-3 Inv-loop μ-loop
-same-length-3 c = (returns-3 c .0) .kept
+same-length-2 c = returns-2 c .0 .kept
 
 pub put-levels-spec : {M : Type 1} → statement M
 put-levels-spec =
@@ -103,20 +98,17 @@ put-levels-spec =
     Inv-loop
     μ-loop
     (λ c κs. search needs)
-    (λ c. search needs)
+    same-length
     returns
-    (λ c. search needs)
-    (λ c κs. search needs)
-    put-number-requires
     loop-holds
-    mul-level-number
+    slice-write-out
     (λ c. search needs)
-    (λ c κs. search needs)
-    put-after-requires
+    mul-put-number
+    array-read-put-number
+    (λ c. search needs)
+    put-number-requires
     (λ c. search needs)
     loop-less
     loop-again
     same-length-2
-    returns-2
-    same-length-3
-    returns-3)
+    returns-2)

@@ -1,27 +1,21 @@
 -- `lines::put_small` meets its contract.
 -- Assumes nothing.
-use mathlib.Core.Path.{sym, ap, _∙_}
-use Prim.Native.Nat.{ℕ}
+use borrow.Author.Needs.{needs}
+use mathlib.Core.Path.{sym}
+use Prim.Native.Nat.{_<_}
 use native.Mathlib.Omega.{arith}
-use mathlib.Core.List.{[], _∷_}
-use Rattle.lines.proofs.Paste.{puts-as}
+use lib.ListN.{length}
+use Rattle.lines.proofs.Paste.{puts-byte, puts-as}
 use Rattle.lines.proofs.Decimal.{decimal-digit, decimal-pair, digit-length, pair-length}
 use Rattle.lines.proofs.put_small.Statement.{statement}
 use Rattle.lines.proofs.put_small.Tie as tie
 
-digit-requires : tie.Need-digit-requires
-digit-requires c κs = c .before .if1 .taken
-
-put-byte-requires : tie.Need-put-byte-requires
-put-byte-requires c κs =
-    let d = c .before .before in
-    let one = digit-length _ (d .if1 .taken) in
-    omega (arith, d .before .before .pre .1)
+-- there is room for one digit
+room : (c : tie.Then1) → let entry = c .before .before in entry .args .at < length (entry .args .out .now)
+room c = omega (arith, digit-length _ (c .if1 .taken), c .before .before .pre .1)
 
 returns : tie.Need-returns
-returns c =
-    let p = c .before .before in
-    puts-as (ap (λ (d : ℕ). d ∷ []) (p .before .digit .ensures) ∙ sym (decimal-digit _ (p .before .before .before .if1 .taken))) (p .put-byte .ensures)
+returns c = puts-as (sym (decimal-digit _ (c .if1 .taken))) (puts-byte _ _ _ (room c))
 
 same-length : tie.Need-same-length
 same-length c = returns c .kept
@@ -44,4 +38,4 @@ same-length-2 c = returns-2 c .kept
 
 pub put-small-spec : {M : Type 1} → statement M
 put-small-spec =
-    tie.close (tie.spec digit-requires put-byte-requires same-length returns put-pair-requires same-length-2 returns-2)
+    tie.close (tie.spec (λ c. search needs) (λ c. search needs) room (λ c. search needs) same-length returns put-pair-requires same-length-2 returns-2)
