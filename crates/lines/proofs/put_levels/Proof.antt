@@ -27,6 +27,9 @@ twelve c = search needs
 small : (c : tie.Start Inv-loop μ-loop) (i : ℕ) → getD (c .args .t4) i 0 < 65536
 small c i = let level : Fits w16 (getD (c .args .t4) i 0) = search needs in level .fits
 
+put-two-requires : tie.Need-put-two-requires Inv-loop μ-loop
+put-two-requires c κs = (omega arith, omega (arith, c .before .before .before .pre))
+
 returns : tie.Need-returns Inv-loop μ-loop
 returns c =
     let d = c .before .before in
@@ -97,7 +100,7 @@ put-levels-spec =
     (tie.spec
     Inv-loop
     μ-loop
-    (λ c κs. search needs)
+    put-two-requires
     same-length
     returns
     loop-holds

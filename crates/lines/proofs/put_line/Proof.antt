@@ -29,6 +29,14 @@ parts position kind number a e n l h =
 returns : tie.Need-returns
 returns c = none-put _ _ _ _ (omega (arith, c .if1 .taken))
 
+put-numbers-requires : tie.Need-put-numbers-requires
+put-numbers-requires c κs = omega (arith, c .before .before .if1 .left)
+
+put-levels-requires : tie.Need-put-levels-requires
+put-levels-requires c κs =
+    let n = c .before .before .before in
+    omega (arith, n .before .before .before .if1 .left, n .put-numbers .ensures .1, n .put-numbers .ensures .0 .kept)
+
 slice-write-out : tie.Need-slice-write-out
 slice-write-out c =
     let l = c .before .before in
@@ -60,8 +68,8 @@ put-line-spec =
     (λ c κs. search needs)
     (λ c. search needs)
     returns
-    (λ c κs. search needs)
-    (λ c κs. search needs)
+    put-numbers-requires
+    put-levels-requires
     slice-write-out
     (λ c. search needs)
     same-length
