@@ -46,6 +46,12 @@ pub at-most-trans : {xs ys zs : List ℕ} → AtMost xs ys → AtMost ys zs → 
 at-most-trans empty q = q
 at-most-trans (more h p) (more k q) = more (le-trans h k) (at-most-trans p q)
 
+pub at-most-antisym : {xs ys : List ℕ} → AtMost xs ys → AtMost ys xs → xs ≡ ys
+at-most-antisym empty empty = refl
+at-most-antisym (more {x = x} {y = y} h p) (more k q) =
+    let same : x ≡ y = omega arith in
+    rw (same, at-most-antisym p q)
+
 pub at-most-length : {xs ys : List ℕ} → AtMost xs ys → length xs ≡ length ys
 at-most-length empty = refl
 at-most-length (more h p) = ap suc (at-most-length p)

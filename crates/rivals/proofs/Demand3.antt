@@ -33,10 +33,10 @@ use Rattle.rivals.specs.Rivals.{Rival, standing, Raised, Follows, Moves,
 use Rattle.plain_machine.proofs.Machine.{acceptBy, accept, apply-number, apply-value, same-group, apply-group, target-shows, done-checks, done-pushes, worn-beyond, apply-rises}
 
 -- the rival r beside the group g, whose answers have added up to q
-record Beside (g : Group) (q : ℕ) (r : Rival) : Type 0 where
-  caps : r .caps ≡ g .caps
-  low : AtMost (g .levels) (r .levels)
-  cost : q + sum (r .levels) ≤ r .pulses + sum (g .levels)
+pub record Beside (g : Group) (q : ℕ) (r : Rival) : Type 0 where
+  pub caps : r .caps ≡ g .caps
+  pub low : AtMost (g .levels) (r .levels)
+  pub cost : q + sum (r .levels) ≤ r .pulses + sum (g .levels)
 
 -- it stays so when both are raised
 beside-push : (g : Group) (q : ℕ) (r s : Rival) (t : List ℕ) → Raised t r s → Beside g q r
@@ -58,11 +58,11 @@ room g q r s t b m =
     push-holds g t (fits-where g t (s .levels) (at-most-trans (b .low) (m .no-lower)) (m .shows) (rw (m .same-caps ∙ b .caps) at (m .within)))
 
 -- the plain machine goes with us
-plain-step : (g : Group) (c : Call) → plainAfter (applyOf g c .number) g c ≡ applyOf g c .value .group
+pub plain-step : (g : Group) (c : Call) → plainAfter (applyOf g c .number) g c ≡ applyOf g c .value .group
 unfolding plainAfter
 plain-step g c = same-group g c
 
-plain-ours : (g : Group) (cs : List Call) → plain applyOf g g cs ≡ after applyOf g cs
+pub plain-ours : (g : Group) (cs : List Call) → plain applyOf g g cs ≡ after applyOf g cs
 unfolding plain after
 plain-ours g [] = refl
 plain-ours g (c ∷ cs) = rw (plain-step g c) (plain-ours (applyOf g c .value .group) cs)
@@ -163,7 +163,7 @@ our-course g q (c ∷ cs) h =
     next (our-step g q c h) later
 
 -- it ends at our group, with the pulses of our answers
-our-end : (g : Group) (q : ℕ) (cs : List Call)
+pub our-end : (g : Group) (q : ℕ) (cs : List Call)
     → latest (standing g q) (own applyOf g q cs) ≡ standing (after applyOf g cs) (q + pulsesOf applyOf g cs)
 unfolding own latest after pulsesOf
 our-end g q [] = rw add-zero
@@ -172,17 +172,17 @@ our-end g q (c ∷ cs) = our-end (applyOf g c .value .group) _ cs ∙ rw (apply-
 -- ---- the demand, for a group and a list of calls
 
 module _ (g : Group) (h : IsGroup g) (cs : List Call) where
-  abbrev now : Group
+  abbrev pub now : Group
   now = after applyOf g cs
 
-  abbrev spent : ℕ
+  abbrev pub spent : ℕ
   spent = pulsesOf applyOf g cs
 
   -- a rival can be raised to the target of this call
   abbrev Open : Call → Type 0
   Open c = Raisable applyOf g cs (target now c)
 
-  side : (ss : List Rival) → Course applyOf g g (entrant g) cs ss → Beside now (0 + spent) (latest (entrant g) ss)
+  pub side : (ss : List Rival) → Course applyOf g g (entrant g) cs ss → Beside now (0 + spent) (latest (entrant g) ss)
   unfolding entrant
   side ss k = beside-course 0 refl k (record { caps = refl; low = at-most-refl (g .levels); cost = le-refl _ })
 

@@ -3,6 +3,7 @@ pub mod Climb
 pub mod CostRise
 pub mod WriteRise
 pub mod Demand3
+pub mod Determined
 pub mod Valid
 pub mod Refuted
 pub mod Starred
