@@ -209,12 +209,13 @@ module _ (g : Group) (h : IsGroup g) (cs : List Call) where
   unfolding entrant
   demand3 =
       record {
-        accepted = λ c. rw (plain-ours g cs) (λ e. sym (apply-number now c) ∙ e, λ e. apply-number now c ∙ e);
+        answered = apply-number now;
+        handed = λ c. rw (plain-ours g cs);
         lowest = λ ss k. side ss k .low;
         cheapest = λ ss k. let b = side ss k in omega (arith, b .cost, sum-mono (b .low));
         ours = our-course g 0 cs h;
         exact = ap (λ (r : Rival). r .pulses) (our-end g 0 cs) ∙ zero-add spent;
-        worn-exactly = λ c w e. let f = rw (plain-ours g cs) at e in rw (plain-ours g cs) (not-open c w f, shut-worn c w f);
+        worn-exactly = λ c w e. rw (plain-ours g cs) (not-open c w e, shut-worn c w e);
       }
 
 -- ---- the mission's case: a freshly opened group

@@ -1,75 +1,121 @@
--- What demand 3 leaves open of a machine: nothing of what it speaks of. A machine that meets it accepts the calls that the plain machine accepts,
--- stands at the same levels and caps after every list of calls, adds up to the same pulses, and says worn to the same calls.
+-- What demand 3 determines of a machine. One that meets it answers every call with the plain machine's number, leaves the plain machine's group after
+-- every list of calls, and adds up to the same pulses. The symbol, the verdict and the pushes it leaves to the contracts.
 -- Assumes nothing.
-use Prim.Native.Nat.{ℕ, zero, suc}
+use Prim.Native.Nat.{ℕ, _≤_}
 use mathlib.Core.Path.{_≡_, refl, sym, _∙_}
-use mathlib.Core.Logic.{_↔_}
-use mathlib.Core.Bool.{true}
+use mathlib.Core.Bool.{Bool, true, false}
 use mathlib.Core.List.{List, [], _∷_}
 use native.Mathlib.Omega.{arith}
-use Rattle.order.specs.Refusals.{numberOf, ifDone}
+use lib.Dec.{ltb}
+use borrow.Author.Tests.{le-leb}
+use Rattle.order.specs.declared.Refusal.the-variants.{NoCell, Blank, Lost}
+use Rattle.order.specs.Refusals.{numberOf}
+use Rattle.order.specs.Cells.{isCell}
+use Rattle.order.specs.Order.{noOrder}
+use Rattle.order.proofs.Refusals.{all-held, check-held, check-holds, check-fails, later-decide, all-hold}
 use Rattle.group.specs.declared.Group.{Group}
+use Rattle.group.specs.Record.{groupChecks}
 use Rattle.group.specs.Changes.{openOf}
 use Rattle.group.proofs.Levels.{at-most-antisym}
+use Rattle.group.proofs.Checks.{checked-size, cell-true}
 use Rattle.group.proofs.Groups.{IsGroup, open-group}
-use Rattle.plain_machine.specs.declared.Kind.{Kind}
+use Rattle.engine.specs.ReadStore.{placeRead}
+use Rattle.plain_machine.specs.declared.Kind.the-variants.{Leak, Read}
 use Rattle.plain_machine.specs.declared.Call.{Call}
-use Rattle.plain_machine.specs.Machine.{writes, target, earlierChecks, checks, applyOf}
-use Rattle.plain_machine.proofs.Machine.{apply-number, same-group}
-use Rattle.rivals.specs.Rivals.{Rival, standing, Moves, entrant, latest, Machine, after, pulsesOf, plainAfter, Course, rest, next, plain, own, Raisable, Demand3, MeetsDemand3}
-use Rattle.rivals.proofs.Demand3.{plain-step, plain-ours, our-end, side, demand3}
+use Rattle.plain_machine.specs.Machine.{target, checks, applyOf}
+use Rattle.plain_machine.proofs.Machine.{apply-number}
+use Rattle.rivals.specs.Rivals.{Rival, standing, entrant, latest, Moves, Machine, after, pulsesOf, plainAfter, Course, rest, next, plain, own, Demand3, MeetsDemand3}
+use Rattle.rivals.proofs.Demand3.{plain-step, our-end, side, group-after, demand3}
 
--- a call that is refused by both, or by neither
-goes : (k j : ℕ) → (k ≡ 0) ↔ (j ≡ 0) → (x p : Group) → ifDone j x p ≡ x → ifDone k x p ≡ x
-goes zero j e x p s = refl
-goes (suc k) zero e x p s = absurd (omega (arith, e .1 refl))
-goes (suc k) (suc j) e x p s = s
+-- ---- two records to which the same checks apply at every call have the same n and mark
 
-moves : (k j : ℕ) → (k ≡ 0) ↔ (j ≡ 0) → (kind : Kind) (t : List ℕ) (r s : Rival) → Moves k kind t r s → Moves j kind t r s
-unfolding Moves
-moves zero zero e kind t r s m = m
-moves zero (suc j) e kind t r s m = absurd (omega (arith, e .0 refl))
-moves (suc k) zero e kind t r s m = absurd (omega (arith, e .1 refl))
-moves (suc k) (suc j) e kind t r s m = m
+abbrev leaking : ℕ → Call
+leaking k = record { kind = Leak (record { 0 = k }) 0; target = noOrder }
+
+abbrev reading : Call
+reading = record { kind = Read; target = noOrder }
+
+leak-held : (g : Group) (k : ℕ) → numberOf (checks g (leaking k)) ≡ 0 → (numberOf (groupChecks g) ≡ 0) × (k ≤ g .n)
+leak-held g k e =
+    let t = all-held _ (groupChecks g) e in
+    (t .0, cell-true (g .n) k (check-held (isCell (g .n) k) NoCell [] (t .1) .0) .1)
+
+module _ (g : Group) (d : numberOf (groupChecks g) ≡ 0) where
+  leak-holds : numberOf (checks g (leaking (g .n))) ≡ 0
+  leak-holds =
+      let size = checked-size g d in
+      later-decide _ (groupChecks g) d ∙ check-holds NoCell [] (rw (le-leb 1 (g .n) (omega (arith, size)), le-leb (g .n) (g .n) (omega arith))) ∙ all-hold
+
+  blank-read : g .written ≡ false → numberOf (checks g reading) ≡ 6
+  blank-read w = later-decide _ (groupChecks g) d ∙ check-fails Blank _ w
+
+  marked-read : g .written ≡ true → numberOf (checks g reading) ≡ 6 → ⊥
+  marked-read w e = go (ltb (placeRead g) (g .n)) refl
+    where
+      past : numberOf (checks g reading) ≡ numberOf ((ltb (placeRead g) (g .n), Lost) ∷ [])
+      past = later-decide _ (groupChecks g) d ∙ check-holds Blank _ w
+
+      go : (b : Bool) → ltb (placeRead g) (g .n) ≡ b → ⊥
+      go true f = let z : _≡_ {A = ℕ} 6 0 = sym e ∙ past ∙ check-holds Lost [] f ∙ all-hold in omega arith
+      go false f = let z : _≡_ {A = ℕ} 6 7 = sym e ∙ past ∙ check-fails Lost [] f in omega arith
+
+module _ (g h : Group) (same : (c : Call) → numberOf (checks g c) ≡ numberOf (checks h c)) (d : numberOf (groupChecks h) ≡ 0) where
+  n-low : (numberOf (groupChecks g) ≡ 0) × (h .n ≤ g .n)
+  n-low = leak-held g (h .n) (same (leaking (h .n)) ∙ leak-holds h d)
+
+  n-high : g .n ≤ h .n
+  n-high = leak-held h (g .n) (sym (same (leaking (g .n))) ∙ leak-holds g (n-low .0)) .1
+
+  checked-n : g .n ≡ h .n
+  checked-n = omega (arith, n-low .1, n-high)
+
+  checked-mark : g .written ≡ h .written
+  checked-mark = go (g .written) refl (h .written) refl
+    where
+      go : (b : Bool) → g .written ≡ b → (c : Bool) → h .written ≡ c → b ≡ c
+      go true v true w = refl
+      go false v false w = refl
+      go true v false w = absurd (marked-read g (n-low .0) v (same reading ∙ blank-read h d w))
+      go false v true w = absurd (marked-read h d w (sym (same reading) ∙ blank-read g (n-low .0) v))
+
+-- ---- a machine that is answered as the plain machine is has its rivals
 
 module _ (run : Machine) where
-  -- from g on the machine accepts what the plain machine does from p on
-  record Accepts (g p : Group) : Type 0 where
-    next-call : (cs : List Call) (c : Call) → (run (after run g cs) c .number ≡ 0) ↔ (numberOf (checks (plain run g p cs) c) ≡ 0)
+  -- from g on the machine answers with the numbers of the plain machine from p on
+  record Numbered (g p : Group) : Type 0 where
+    next-call : (cs : List Call) (c : Call) → run (after run g cs) c .number ≡ numberOf (checks (plain run g p cs) c)
 
-  module _ {g p : Group} (a : Accepts g p) (c : Call) where
-    both : (run g c .number ≡ 0) ↔ (applyOf p c .number ≡ 0)
+  module _ {g p : Group} (a : Numbered g p) (c : Call) where
+    same-here : run g c .number ≡ applyOf p c .number
     unfolding after plain
-    both = (λ e. apply-number p c ∙ a .next-call [] c .0 e, λ e. a .next-call [] c .1 (sym (apply-number p c) ∙ e))
+    same-here = a .next-call [] c ∙ sym (apply-number p c)
 
     plain-goes : plainAfter (run g c .number) p c ≡ applyOf p c .value .group
-    unfolding plainAfter
-    plain-goes = goes (run g c .number) (applyOf p c .number) both (applyOf p c .value .group) p (same-group p c)
+    plain-goes = rw same-here (plain-step p c)
 
-    accepts-next : Accepts (run g c .value .group) (applyOf p c .value .group)
+    numbered-next : Numbered (run g c .value .group) (applyOf p c .value .group)
     unfolding after plain
-    accepts-next = record { next-call = λ cs d. rw plain-goes at (a .next-call (c ∷ cs) d) }
+    numbered-next = record { next-call = λ cs d. rw plain-goes at (a .next-call (c ∷ cs) d) }
 
-  plain-same : (g p : Group) → Accepts g p → (cs : List Call) → plain run g p cs ≡ after applyOf p cs
+  plain-same : (g p : Group) → Numbered g p → (cs : List Call) → plain run g p cs ≡ after applyOf p cs
   unfolding plain after
   plain-same g p a [] = refl
-  plain-same g p a (c ∷ cs) = rw (plain-goes a c) (plain-same (run g c .value .group) (applyOf p c .value .group) (accepts-next a c) cs)
+  plain-same g p a (c ∷ cs) = rw (plain-goes a c) (plain-same (run g c .value .group) (applyOf p c .value .group) (numbered-next a c) cs)
 
-  -- the rivals of the machine are those of the plain machine
-  to-plain : (g p : Group) → Accepts g p → (cs : List Call) {r : Rival} {ss : List Rival} → Course run g p r cs ss → Course applyOf p p r cs ss
+  to-plain : (g p : Group) → Numbered g p → (cs : List Call) {r : Rival} {ss : List Rival} → Course run g p r cs ss → Course applyOf p p r cs ss
   to-plain g p a [] rest = rest
-  to-plain g p a (c ∷ cs) (next {r = r} {s = s} {ss = ss} m k) =
+  to-plain g p a (c ∷ cs) (next {s = s} {ss = ss} m k) =
       let new = applyOf p c .value .group in
-      let later : Course applyOf new (plainAfter (applyOf p c .number) p c) s cs ss = rw (plain-step p c) (to-plain _ new (accepts-next a c) cs (rw (plain-goes a c) at k)) in
-      next (moves _ _ (both a c) (c .kind) (target p c) r s m) later
+      let later : Course applyOf new (plainAfter (applyOf p c .number) p c) s cs ss = rw (plain-step p c) (to-plain _ new (numbered-next a c) cs (rw (plain-goes a c) at k)) in
+      next (rw (same-here a c) at m) later
 
-  from-plain : (g p : Group) → Accepts g p → (cs : List Call) {r : Rival} {ss : List Rival} → Course applyOf p p r cs ss → Course run g p r cs ss
+  from-plain : (g p : Group) → Numbered g p → (cs : List Call) {r : Rival} {ss : List Rival} → Course applyOf p p r cs ss → Course run g p r cs ss
   from-plain g p a [] rest = rest
   from-plain g p a (c ∷ cs) (next {r = r} {s = s} {ss = ss} m k) =
-      let e = both a c in
       let new = run g c .value .group in
-      let later : Course run new (plainAfter (run g c .number) p c) s cs ss = rw (plain-goes a c) (from-plain new _ (accepts-next a c) cs (rw (plain-step p c) at k)) in
-      next (moves _ _ (e .1, e .0) (c .kind) (target p c) r s m) later
+      let later : Course run new (plainAfter (run g c .number) p c) s cs ss = rw (plain-goes a c) (from-plain new _ (numbered-next a c) cs (rw (plain-step p c) at k)) in
+      let move : Moves (run g c .number) (c .kind) (target p c) r s = rw (same-here a c) m in
+      next move later
 
   -- its own course ends at its group
   own-end : (g : Group) (q : ℕ) (cs : List Call)
@@ -78,8 +124,10 @@ module _ (run : Machine) where
   own-end g q [] = (refl, refl)
   own-end g q (c ∷ cs) = own-end (run g c .value .group) _ cs
 
+  -- ---- the theorem
+
   module _ (meets : MeetsDemand3 run) (n : ℕ) (e : openOf n .number ≡ 0) (cs : List Call) where
-    abbrev start : Group
+    abbrev pub start : Group
     start = openOf n .value
 
     group : IsGroup start
@@ -91,32 +139,38 @@ module _ (run : Machine) where
     ours : Demand3 applyOf start cs
     ours = demand3 start group cs
 
-    accepts : Accepts start start
-    accepts = record { next-call = λ ds. meets n e ds .accepted }
+    numbered : Numbered start start
+    numbered = record { next-call = λ ds c. meets n e ds .answered c ∙ meets n e ds .handed c }
 
     -- our course is one of its rivals, and its course one of ours
     our-rival : Course run start start (entrant start) cs (own applyOf start 0 cs)
-    our-rival = from-plain start start accepts cs (ours .ours)
+    our-rival = from-plain start start numbered cs (ours .ours)
 
     their-rival : Course applyOf start start (entrant start) cs (own run start 0 cs)
-    their-rival = to-plain start start accepts cs (theirs .ours)
+    their-rival = to-plain start start numbered cs (theirs .ours)
 
-    pub same-accepted : (c : Call) → (run (after run start cs) c .number ≡ 0) ↔ (applyOf (after applyOf start cs) c .number ≡ 0)
-    same-accepted c =
-        let t = rw (plain-same start start accepts cs) at (theirs .accepted c) in
-        let k = apply-number (after applyOf start cs) c in
-        (λ z. k ∙ t .0 z, λ z. t .1 (sym k ∙ z))
+    same-checks : (c : Call) → numberOf (checks (after run start cs) c) ≡ numberOf (checks (after applyOf start cs) c)
+    same-checks c = rw (plain-same start start numbered cs) at (theirs .handed c)
 
-    pub same-levels : after run start cs .levels ≡ after applyOf start cs .levels
+    passes : numberOf (groupChecks (after applyOf start cs)) ≡ 0
+    passes = group-after start cs group .passes
+
+    same-levels : after run start cs .levels ≡ after applyOf start cs .levels
     unfolding entrant
     same-levels =
         let above = rw (our-end start 0 cs) at (theirs .lowest (own applyOf start 0 cs) our-rival) in
         let below = rw (own-end start 0 cs .0) at (ours .lowest (own run start 0 cs) their-rival) in
         at-most-antisym above below
 
-    pub same-caps : after run start cs .caps ≡ after applyOf start cs .caps
+    same-caps : after run start cs .caps ≡ after applyOf start cs .caps
     unfolding entrant
     same-caps = sym (own-end start 0 cs .1) ∙ side start group cs (own run start 0 cs) their-rival .caps
+
+    pub same-group : after run start cs ≡ after applyOf start cs
+    same-group =
+        let size = checked-n _ _ same-checks passes in
+        let mark = checked-mark _ _ same-checks passes in
+        λ i. record { n = size i; levels = same-levels i; caps = same-caps i; written = mark i }
 
     pub same-pulses : pulsesOf run start cs ≡ pulsesOf applyOf start cs
     same-pulses =
@@ -128,18 +182,5 @@ module _ (run : Machine) where
           ours .cheapest (own run start 0 cs) their-rival,
         )
 
-    raisable-to : (t : List ℕ) → Raisable run start cs t → Raisable applyOf start cs t
-    unfolding Raisable
-    raisable-to t (ss, k, s, m) = (ss, to-plain start start accepts cs k, s, m)
-
-    raisable-from : (t : List ℕ) → Raisable applyOf start cs t → Raisable run start cs t
-    unfolding Raisable
-    raisable-from t (ss, k, s, m) = (ss, from-plain start start accepts cs k, s, m)
-
-    pub same-worn : (c : Call) → writes (c .kind) ≡ true → numberOf (earlierChecks (after applyOf start cs) c) ≡ 0
-        → (run (after run start cs) c .number ≡ 8) ↔ (applyOf (after applyOf start cs) c .number ≡ 8)
-    same-worn c w z =
-        let here = plain-same start start accepts cs in
-        let t = rw here at (theirs .worn-exactly c w (rw here z)) in
-        let o = rw (plain-ours start cs) at (ours .worn-exactly c w (rw (plain-ours start cs) z)) in
-        (λ worn. o .1 (λ k. t .0 worn (raisable-from _ k)), λ worn. t .1 (λ k. o .0 worn (raisable-to _ k)))
+    pub same-number : (c : Call) → run (after run start cs) c .number ≡ applyOf (after applyOf start cs) c .number
+    same-number c = theirs .answered c ∙ same-checks c ∙ sym (apply-number (after applyOf start cs) c)

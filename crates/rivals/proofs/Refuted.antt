@@ -4,7 +4,7 @@
 -- that write.
 -- Assumes nothing.
 use Prim.Native.Nat.{ℕ, suc, _+_, _<_}
-use mathlib.Core.Path.{_≡_, refl}
+use mathlib.Core.Path.{_≡_, refl, sym, _∙_}
 use mathlib.Core.Bool.{false, cond, _&&_}
 use mathlib.Core.List.{List, [], _∷_}
 use native.Mathlib.Omega.{arith}
@@ -34,14 +34,17 @@ use Rattle.plain_machine.proofs.Machine.{accept}
 use Rattle.rivals.specs.Rivals.{Rival, Raised, Follows, Moves, entrant, latest, Machine, after, pulsesOf, plain, plainAfter, Course, rest, next, Raisable, Demand3, MeetsDemand3, own}
 
 -- the machines start from a new group of 3 cells
-abbrev pub start : Group
+abbrev start : Group
 start = opened 3
 
-abbrev pub order : Order
+abbrev order : Order
 order = orderRecord (1 ∷ 2 ∷ 3 ∷ [])
 
-abbrev pub call : Call
+abbrev call : Call
 call = record { kind = Write; target = order }
+
+abbrev read-call : Call
+read-call = record { kind = Read; target = order }
 
 -- where the plain machine goes, and its course
 abbrev least : List ℕ
@@ -93,6 +96,14 @@ pub quitter-refuted : ¬ (MeetsDemand3 quitter)
 unfolding quitter
 quitter-refuted = worn-refuted quitter refl
 
+-- one that says worn to whatever it refuses: a read of a group that is not written is refused 6
+pub blamer : Machine
+blamer g c = let t = applyOf g c in record { number = cond (eqb (t .number) 0) 0 8; value = t .value }
+
+pub blamer-refuted : ¬ (MeetsDemand3 blamer)
+unfolding blamer after applyOf readOf answer numberOf isRow allAtMost
+blamer-refuted = fails blamer [] (λ d. let e : _≡_ {A = ℕ} 8 6 = d .answered read-call in omega arith)
+
 -- what the plain machine answers to that write
 plain-answer : let t = applyOf start call in (t .number ≡ 0) × (t .value .group .levels ≡ least) × (t .value .pulses ≡ 3)
 unfolding applyOf writeOf answer pushed rises numberOf isRow allAtMost orderRecord cellNumbers isOrderOf isListing isOrder eachOnce allZero fits raised raise lift singles floorOver top level put atMost
@@ -119,7 +130,7 @@ altered group pulses t =
           };
     }
 
--- one that raises cell 1 by one more than needed, and counts that pulse
+-- one that raises cell 1 by one more than the plain machine does, and counts that pulse
 pub eager : Machine
 eager = otherwise (λ g c. altered (λ h. withLevels h (put (h .levels) 1 (level (h .levels) 1 + 1))) (λ k. k + 1))
 
@@ -145,7 +156,7 @@ silent-refuted = fails silent (call ∷ []) (λ d. let e = rw (plain-answer .0, 
 
 -- one that pushes to the top (SD 002): going up the target, a cell that is not above the one below it is raised to one more than the highest
 -- level of all cells. From levels 2, 1, 0 it shows [1, 3, 2] by 4, 1, 3, where 3, 1, 2 will do
-pub toTheTop : List ℕ → List ℕ → List ℕ
+toTheTop : List ℕ → List ℕ → List ℕ
 toTheTop [] ls = ls
 toTheTop (c ∷ []) ls = ls
 toTheTop (c ∷ d ∷ cs) ls =
@@ -159,7 +170,7 @@ levelled new g c = altered (λ h. withLevels h (new g c)) (λ k. rises (g .level
 pub climber : Machine
 climber = otherwise (levelled (λ g c. toTheTop (target g c) (g .levels)))
 
-abbrev pub second-call : Call
+abbrev second-call : Call
 second-call = record { kind = Write; target = orderRecord (1 ∷ 3 ∷ 2 ∷ []) }
 
 abbrev second-course : Rival
@@ -205,14 +216,11 @@ forgetter = otherwise (λ g c. altered (λ h. changed h (h .levels) (h .caps) fa
 
 pub spoiler-refuted : ¬ (MeetsDemand3 spoiler)
 unfolding spoiler after plain plainAfter applyOf writeOf answer pushed rises numberOf isRow allAtMost orderRecord cellNumbers isOrderOf isListing isOrder eachOnce allZero fits raised raise lift singles floorOver top level put atMost
-spoiler-refuted = fails spoiler (call ∷ []) (λ d. let e : _≡_ {A = ℕ} 1 0 = d .accepted call .1 refl in omega arith)
-
-abbrev pub read-call : Call
-read-call = record { kind = Read; target = order }
+spoiler-refuted = fails spoiler (call ∷ []) (λ d. let e : _≡_ {A = ℕ} 1 0 = d .handed call in omega arith)
 
 pub forgetter-refuted : ¬ (MeetsDemand3 forgetter)
 unfolding forgetter after plain plainAfter readOf sensed sorted insert above correction firstBelow isCodeword leaves weight coordinatesTo coordinateOf applyOf writeOf answer pushed rises numberOf isRow allAtMost orderRecord cellNumbers isOrderOf isListing isOrder eachOnce allZero fits raised raise lift singles floorOver top level put atMost
-forgetter-refuted = fails forgetter (call ∷ []) (λ d. let e : _≡_ {A = ℕ} 6 0 = d .accepted read-call .1 refl in omega arith)
+forgetter-refuted = fails forgetter (call ∷ []) (λ d. let e : _≡_ {A = ℕ} 6 0 = d .handed read-call in omega arith)
 
 -- one that takes a lent list of any room
 byValue : Kind → Kind
@@ -228,19 +236,19 @@ byValue Read = Read
 pub crammer : Machine
 crammer g c = applyOf g (record { kind = byValue (c .kind); target = c .target })
 
-abbrev pub short-call : Call
+abbrev short-call : Call
 short-call = record { kind = WriteInto 1; target = order }
 
 pub crammer-refuted : ¬ (MeetsDemand3 crammer)
 unfolding crammer byValue after plain numberOf isRow allAtMost
-crammer-refuted = fails crammer [] (λ d. let e : _≡_ {A = ℕ} 10 0 = d .accepted short-call .0 (plain-answer .0) in omega arith)
+crammer-refuted = fails crammer [] (λ d. let e : _≡_ {A = ℕ} 0 10 = sym (plain-answer .0) ∙ d .answered short-call in omega arith)
 
--- one that says worn before it reckons the new levels: where cell 1 stands at its cap. After the write, with cell 1 worn to its level, the
+-- one that says worn before it reckons the new levels: where cell 1 stands at its cap or above it. After the write, with cell 1 worn to its level, the
 -- same write raises nothing
 pub hasty : Machine
 hasty g c = cond (writes (c .kind) && leb (level (g .caps) 1) (level (g .levels) 1)) (record { number = 8; value = quiet g }) (applyOf g c)
 
-abbrev pub worn-call : Call
+abbrev worn-call : Call
 worn-call = record { kind = Wear (record { 0 = 1 }) 2; target = order }
 
 abbrev worn-course : Rival
@@ -272,10 +280,10 @@ lax g c =
     let new = raise 1 (singles (target g c)) (g .levels) in
     cond (writes (c .kind) && eqb (t .number) 8 && leb (level new first) (level (g .caps) first)) (record { number = 0; value = accept g c }) t
 
-abbrev pub spent-call : Call
-spent-call = record { kind = Wear (record { 0 = 2 }) 0; target = order }
+abbrev second-worn : Call
+second-worn = record { kind = Wear (record { 0 = 2 }) 0; target = order }
 
 -- with cell 2 worn to 0 it takes the order [1, 2, 3], whose top cell has room
 pub lax-refuted : ¬ (MeetsDemand3 lax)
 unfolding lax after plain plainAfter wearOf applyOf writeOf answer pushed rises numberOf isRow allAtMost orderRecord cellNumbers isOrderOf isListing isOrder eachOnce allZero fits raised raise lift singles floorOver top level put atMost
-lax-refuted = fails lax (spent-call ∷ []) (λ d. let e : _≡_ {A = ℕ} 8 0 = d .accepted call .0 refl in omega arith)
+lax-refuted = fails lax (second-worn ∷ []) (λ d. let e : _≡_ {A = ℕ} 0 8 = d .answered call in omega arith)

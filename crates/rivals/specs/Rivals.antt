@@ -1,9 +1,9 @@
 -- Document 01, "The rivals of demand 3", and demand 3: one claim about every list of calls on one group.
 -- The claim is about any machine that answers calls. That ours meets it is the theorem `demand3-open` (proofs/Demand3) about `applyOf`, which is
--- the whole answer of the public function `apply` by its contract. Of a machine's answers it speaks of the number, as far as it is 0 or 8, of the
--- pulses, and of the group's levels and caps. The checks of the call that comes next are asked of the plain machine's record, so that a machine
--- whose record goes wrong in n or the mark fails at a later call. The symbol, the verdict and the pushes are fixed by the contracts alone.
--- A list of calls may hold writes into a lent list, of which a call has the room: both the machine's answer to such a call and, by its contract, that
+-- the whole answer of the public function `apply` by its contract. Of a machine's answers it speaks of the number, the pulses and the group: of
+-- the group's levels and caps beside the rivals', and of the whole record by the checks that apply to it at the call that comes next. It leaves none
+-- of these open (proofs/Determined). The symbol, the verdict and the pushes are fixed by the contracts alone.
+-- A list of calls may hold writes into a lent list, of which a call has the room: both `applyOf`'s answer to such a call and, by its contract, that
 -- of `push_list::write_into` are made of `writeIntoOf`, and are the same in what the claim speaks of (`into-applied`, plain_machine, proofs/Machine).
 -- The lent list is no part of a rival.
 --
@@ -127,8 +127,10 @@ module _ (run : Machine) where
   Raisable g cs t = (ss : List Rival) × IsRival g cs ss × (s : Rival) × Raised t (latest (entrant g) ss) s
 
   pub record Demand3 (g : Group) (cs : List Call) : Type 0 where
-    -- number 0 is given exactly when nothing else in the refusal table applies
-    pub accepted : (c : Call) → (run (after g cs) c .number ≡ 0) ↔ (numberOf (checks (plain g g cs) c) ≡ 0)
+    -- number 0 is given exactly when nothing else in the refusal table applies, and else the number of the first check that does
+    pub answered : (c : Call) → run (after g cs) c .number ≡ numberOf (checks (after g cs) c)
+    -- the record that a call is handed, as the call before it left it, meets the checks that the plain machine's meets
+    pub handed : (c : Call) → numberOf (checks (after g cs) c) ≡ numberOf (checks (plain g g cs) c)
     -- no rival has any cell lower than ours
     pub lowest : (ss : List Rival) → IsRival g cs ss → AtMost (after g cs .levels) (latest (entrant g) ss .levels)
     -- every rival has spent at least as many pulses as our answers add up to
@@ -139,7 +141,7 @@ module _ (run : Machine) where
     pub exact : latest (entrant g) (own g 0 cs) .pulses ≡ pulsesOf g cs
     -- a write, store or scrub that comes next and passes the earlier checks is refused as worn exactly when no rival so far can be raised to
     -- show its target within the caps
-    pub worn-exactly : (c : Call) → writes (c .kind) ≡ true → numberOf (earlierChecks (plain g g cs) c) ≡ 0
+    pub worn-exactly : (c : Call) → writes (c .kind) ≡ true → numberOf (earlierChecks (after g cs) c) ≡ 0
         → (run (after g cs) c .number ≡ 8) ↔ (¬ (Raisable g cs (target (plain g g cs) c)))
 
   abbrev pub MeetsDemand3 : Type 0
