@@ -1,6 +1,6 @@
 -- Demand 3 holds of the machine, from any group and after any list of calls.
--- A rival and our group go side by side: the rival has the same caps, no cell lower, and has spent our pulses and as much more as its
--- levels are higher. A raise of ours is the least, so no cell of the rival comes to be lower; a raise adds as much to the pulses as to
+-- A rival and our group go side by side: the rival has the same caps, no cell lower, and has spent our pulses and at least as much
+-- more as its levels are higher. A raise of ours is the least, so no cell of the rival comes to be lower; a raise adds as much to the pulses as to
 -- the levels, ours and the rival's; and a leak or an erase takes at least as much from the rival.
 -- Assumes nothing.
 use Prim.Native.Nat.{ℕ, zero, suc, _+_, _≤_}

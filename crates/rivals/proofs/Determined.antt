@@ -1,5 +1,6 @@
--- What demand 3 determines of a machine. One that meets it answers every call with the plain machine's number, leaves the plain machine's group after
--- every list of calls, and adds up to the same pulses. The symbol, the verdict and the pushes it leaves to the contracts.
+-- What demand 3 determines of a machine. After every list of calls from an opened group, one that meets it has the plain machine's group, its answers
+-- have added up to the same pulses, and it answers the next call with the plain machine's number. The symbol, the verdict and the pushes are left
+-- to the contracts.
 -- Assumes nothing.
 use Prim.Native.Nat.{ℕ, _≤_}
 use mathlib.Core.Path.{_≡_, refl, sym, _∙_}
@@ -27,7 +28,7 @@ use Rattle.plain_machine.proofs.Machine.{apply-number}
 use Rattle.rivals.specs.Rivals.{Rival, standing, entrant, latest, Moves, Machine, after, pulsesOf, plainAfter, Course, rest, next, plain, own, Demand3, MeetsDemand3}
 use Rattle.rivals.proofs.Demand3.{plain-step, our-end, side, group-after, demand3}
 
--- ---- two records to which the same checks apply at every call have the same n and mark
+-- ---- a record to which, at every call, the same check applies first as to a group has that group's n and mark
 
 abbrev leaking : ℕ → Call
 leaking k = record { kind = Leak (record { 0 = k }) 0; target = noOrder }
@@ -78,7 +79,7 @@ module _ (g h : Group) (same : (c : Call) → numberOf (checks g c) ≡ numberOf
       go true v false w = absurd (marked-read g (n-low .0) v (same reading ∙ blank-read h d w))
       go false v true w = absurd (marked-read h d w (sym (same reading) ∙ blank-read g (n-low .0) v))
 
--- ---- a machine that is answered as the plain machine is has its rivals
+-- ---- a machine that answers with the plain machine's numbers has the plain machine's rivals
 
 module _ (run : Machine) where
   -- from g on the machine answers with the numbers of the plain machine from p on

@@ -1,7 +1,7 @@
--- Wrong machines that fail demand 3. Each is caught on a group of three cells, just opened, by the order [1, 2, 3]: at once, at that order again or
--- [1, 3, 2] after it, at a read after it, after a cell is worn, or into a list of one place, which the plain machine refuses 10. At a write of
--- [1, 2, 3] by value the plain machine goes to levels 2, 1, 0 for 3 pulses, and that course is one of the rivals of every machine that accepts
--- that write.
+-- Wrong machines that fail demand 3. Each is caught on a group of three cells, just opened: one by a read, which the plain machine refuses 6, the
+-- others by the order [1, 2, 3]: at once, at that order again or [1, 3, 2] after it, at a read after it, after a cell is worn, or into a list of one
+-- place, which the plain machine refuses 10. At a write of [1, 2, 3] by value the plain machine goes to levels 2, 1, 0 for 3 pulses, and that course is
+-- one of the rivals of every machine that accepts that write.
 -- Assumes nothing.
 use Prim.Native.Nat.{ℕ, suc, _+_, _<_}
 use mathlib.Core.Path.{_≡_, refl, sym, _∙_}

@@ -1,8 +1,8 @@
 -- Document 01, "The rivals of demand 3", and demand 3: one claim about every list of calls on one group.
 -- The claim is about any machine that answers calls. That ours meets it is the theorem `demand3-open` (proofs/Demand3) about `applyOf`, which is
 -- the whole answer of the public function `apply` by its contract. Of a machine's answers it speaks of the number, the pulses and the group: of
--- the group's levels and caps beside the rivals', and of the whole record by the checks that apply to it at the call that comes next. It leaves none
--- of these open (proofs/Determined). The symbol, the verdict and the pushes are fixed by the contracts alone.
+-- the group's levels and caps beside the rivals', and of the whole record by the checks that apply to it at the call that comes next. None
+-- of these is left open along a list (proofs/Determined). The symbol, the verdict and the pushes are fixed by the contracts alone.
 -- A list of calls may hold writes into a lent list, of which a call has the room: both `applyOf`'s answer to such a call and, by its contract, that
 -- of `push_list::write_into` are made of `writeIntoOf`, and are the same in what the claim speaks of (`into-applied`, plain_machine, proofs/Machine).
 -- The lent list is no part of a rival.
@@ -129,7 +129,8 @@ module _ (run : Machine) where
   pub record Demand3 (g : Group) (cs : List Call) : Type 0 where
     -- number 0 is given exactly when nothing else in the refusal table applies, and else the number of the first check that does
     pub answered : (c : Call) → run (after g cs) c .number ≡ numberOf (checks (after g cs) c)
-    -- the record that a call is handed, as the call before it left it, meets the checks that the plain machine's meets
+    -- the check that applies first to the record that the next call is handed, as the call before left it, is the one that applies first to the
+    -- plain machine's
     pub handed : (c : Call) → numberOf (checks (after g cs) c) ≡ numberOf (checks (plain g g cs) c)
     -- no rival has any cell lower than ours
     pub lowest : (ss : List Rival) → IsRival g cs ss → AtMost (after g cs .levels) (latest (entrant g) ss .levels)
