@@ -1,11 +1,11 @@
 -- What demand 3 determines of a machine. After every list of calls from an opened group, one that meets it has the plain machine's group, its answers
--- have added up to the same pulses, and it answers the next call with the plain machine's number. The symbol, the verdict and the pushes are left
--- to the contracts.
+-- have added up to the same pulses, and its answer to the next call has the plain machine's number, group and pulses. The symbol, the verdict and the
+-- pushes are left to the contracts.
 -- Assumes nothing.
-use Prim.Native.Nat.{ℕ, _≤_}
+use Prim.Native.Nat.{ℕ, _+_, _≤_}
 use mathlib.Core.Path.{_≡_, refl, sym, _∙_}
 use mathlib.Core.Bool.{Bool, true, false}
-use mathlib.Core.List.{List, [], _∷_}
+use mathlib.Core.List.{List, [], _∷_, _++_}
 use native.Mathlib.Omega.{arith}
 use lib.Dec.{ltb}
 use borrow.Author.Tests.{le-leb}
@@ -183,5 +183,28 @@ module _ (run : Machine) where
           ours .cheapest (own run start 0 cs) their-rival,
         )
 
-    pub same-number : (c : Call) → run (after run start cs) c .number ≡ applyOf (after applyOf start cs) c .number
+    same-number : (c : Call) → run (after run start cs) c .number ≡ applyOf (after applyOf start cs) c .number
     same-number c = theirs .answered c ∙ same-checks c ∙ sym (apply-number (after applyOf start cs) c)
+
+  -- ---- the answer to the next call
+
+  after-next : (g : Group) (cs : List Call) (c : Call) → after run g (cs ++ c ∷ []) ≡ run (after run g cs) c .value .group
+  unfolding after
+  after-next g [] c = refl
+  after-next g (d ∷ cs) c = after-next (run g d .value .group) cs c
+
+  pulses-next : (g : Group) (cs : List Call) (c : Call) → pulsesOf run g (cs ++ c ∷ []) ≡ pulsesOf run g cs + run (after run g cs) c .value .pulses
+  unfolding after pulsesOf
+  pulses-next g [] c = omega arith
+  pulses-next g (d ∷ cs) c = omega (arith, pulses-next (run g d .value .group) cs c)
+
+module _ (run : Machine) (meets : MeetsDemand3 run) (n : ℕ) (e : openOf n .number ≡ 0) (cs : List Call) (c : Call) where
+  pub same-answer : let t = run (after run (openOf n .value) cs) c in let u = applyOf (after applyOf (openOf n .value) cs) c in
+      (t .number ≡ u .number) × (t .value .group ≡ u .value .group) × (t .value .pulses ≡ u .value .pulses)
+  same-answer =
+      let g = openOf n .value in
+      let all = same-pulses run meets n e (cs ++ c ∷ []) in (
+        same-number run meets n e cs c,
+        sym (after-next run g cs c) ∙ same-group run meets n e (cs ++ c ∷ []) ∙ after-next applyOf g cs c,
+        omega (arith, all, same-pulses run meets n e cs, pulses-next run g cs c, pulses-next applyOf g cs c),
+      )
