@@ -9,12 +9,13 @@ use native.Mathlib.Nat.{sub-zero, zero-sub, suc-sub-suc, le-refl, le-trans}
 use native.Mathlib.Omega.{arith}
 use lib.Bits.{bitAnd, bitOr}
 use lib.Dec.{leb, ltb}
-use lib.ListN.{length, getD, drop, replicate, length-replicate, getD-replicate, List·getD-append}
-use lib.Seq.{drop-at, getD-append-add}
+use lib.ListN.{length, getD, drop, replicate, length-replicate}
+use lib.Seq.{drop-at}
 use borrow.Author.Tests.{leb-true, leb-false, le-leb, lt-leb}
 use Rattle.order.proofs.Cells.{both, lt-cases}
 use Rattle.order.proofs.Numbers.{drop-up}
 use Rattle.order.proofs.Bits.{or-at-most, high-zero, gather}
+use Rattle.order.proofs.Spare.{row-at}
 use Rattle.group.specs.Levels.{AtMost, empty, more, atMost}
 use Rattle.group.specs.Record.{allAtMost, isRow}
 
@@ -129,24 +130,13 @@ rows-step k m n i ls cs e l c =
 abbrev pub spares : List ℕ
 spares = replicate 12 61440 ++ replicate 12 65535
 
-spare-at : (n i : ℕ) → n ≤ 12 → i < 12 → getD spares (12 - n + i) 0 ≡ cond (ltb i n) 61440 65535
-spare-at n i l h =
-    let above : List ℕ = replicate 12 61440 in
-    let all : List ℕ = replicate 12 65535 in
-    ⊎-elim
-    (λ t. rw (t .1) (List·getD-append above all 0 (12 - n + i) (omega arith) ∙ getD-replicate 12 (12 - n + i) 61440 0 (omega arith)))
-    (λ t.
-    let e : 12 - n + i ≡ 12 + (i - n) = omega arith in
-    rw (t .1, e) (getD-append-add above all (i - n) 0 ∙ getD-replicate 12 (i - n) 65535 0 (omega arith)))
-    (lt-cases i n)
-
 -- `over` gathers them: place i is tested
 pub rows-gathered : (n i over : ℕ) (ls cs : List ℕ) → n ≤ 12 → i < 12 → i < length ls → i < length cs → bitOr (getD ls i 0) (getD cs i 0) < 65536
     → (leb (bitOr over (bitAnd (bitOr (getD ls i 0) (getD cs i 0)) (getD spares (12 - n + i) 0))) 0 && rowsFrom 4095 n (i + 1) ls cs) ≡ (leb over 0 && rowsFrom 4095 n i ls cs)
 rows-gathered n i over ls cs l h inLs inCs small =
     ⊎-elim
-    (λ t. gather over _ (high-zero 4 12 both (spare-at n i l h ∙ rw (t .1)) small) _ ∙ ap (λ (b : Bool). leb over 0 && b) (sym (step ∙ rw (t .1))))
-    (λ t. gather over _ (high-zero 16 0 both (spare-at n i l h ∙ rw (t .1)) small) _ ∙ ap (λ (b : Bool). leb over 0 && b) (sym (step ∙ rw (t .1))))
+    (λ t. gather over _ (high-zero 4 12 both (row-at 61440 65535 n i l h ∙ rw (t .1)) small) _ ∙ ap (λ (b : Bool). leb over 0 && b) (sym (step ∙ rw (t .1))))
+    (λ t. gather over _ (high-zero 16 0 both (row-at 61440 65535 n i l h ∙ rw (t .1)) small) _ ∙ ap (λ (b : Bool). leb over 0 && b) (sym (step ∙ rw (t .1))))
     (lt-cases i n)
   where
     both : ℕ

@@ -5,25 +5,34 @@ use native.Mathlib.Omega.{arith}
 use mathlib.Core.Path.{_≡_, refl, sym, ap, _∙_}
 use mathlib.Core.Bool.{Bool, true, _&&_, and-true, cond}
 use mathlib.Core.Logic.{⊎-elim}
-use mathlib.Core.List.{List, [], _∷_}
-use lib.ListN.{length, getD, drop, drop-of-length-le}
+use mathlib.Core.List.{List, [], _∷_, _++_}
+use lib.ListN.{length, getD, drop, replicate, drop-of-length-le, getD-replicate, List·getD-append}
+use lib.Seq.{getD-append-add}
 use lib.Dec.{leb, eqb, ltb}
 use lib.Bits.{bitAnd, bitOr}
-use borrow.Author.Tests.{lt-ltb, le-ltb, le-leb, leb-true}
-use Rattle.order.specs.Cells.{allZero, tabulate}
+use borrow.Author.Tests.{le-leb, leb-true}
+use Rattle.order.specs.Cells.{allZero}
 use Rattle.order.specs.Steps.{isPadded}
 use Rattle.order.proofs.Cells.{both, lt-cases}
-use Rattle.order.proofs.Tabulate.{getD-tabulate}
 use Rattle.order.proofs.Numbers.{drop-up}
 use Rattle.order.proofs.Padded.{zero-at}
 use Rattle.order.proofs.Bits.{zero-test, high-zero, gather}
 
--- the row: twelve times the bits above the lowest four, then twelve times all eight
-abbrev spare : ℕ → ℕ
-spare k = cond (ltb k 12) 240 255
+-- a row of twelve x and twelve y, from place 12 - n on: x as far as n places, and y past them
+pub row-at : (x y n i : ℕ) → n ≤ 12 → i < 12 → getD (replicate 12 x ++ replicate 12 y) (12 - n + i) 0 ≡ cond (ltb i n) x y
+row-at x y n i l h =
+    let front : List ℕ = replicate 12 x in
+    let back : List ℕ = replicate 12 y in
+    ⊎-elim
+    (λ t. rw (t .1) (List·getD-append front back 0 (12 - n + i) (omega arith) ∙ getD-replicate 12 (12 - n + i) x 0 (omega arith)))
+    (λ t.
+    let e : 12 - n + i ≡ 12 + (i - n) = omega arith in
+    rw (t .1, e) (getD-append-add front back (i - n) 0 ∙ getD-replicate 12 (i - n) y 0 (omega arith)))
+    (lt-cases i n)
 
+-- twelve times the bits above the lowest four, then twelve times all eight
 abbrev pub spares : List ℕ
-spares = tabulate 24 spare
+spares = replicate 12 240 ++ replicate 12 255
 
 -- `over` is 0 where the numbers up to place i are padded
 pub record PaddedTo (xs : List ℕ) (len over i : ℕ) : Type 0 where
@@ -37,8 +46,8 @@ padded-none xs len w s = let e : len - 0 ≡ len = omega arith in record { whole
 
 module _ {xs : List ℕ} {len over i : ℕ} (t : PaddedTo xs len over i) where
   module _ (l : i < 12) {x : ℕ} (at : x ≡ getD xs i 0) (byte : x < 256) {y : ℕ} (row : y ≡ getD spares (12 - len + i) 0) where
-    met-spare : y ≡ spare (12 - len + i)
-    met-spare = row ∙ getD-tabulate 24 spare (12 - len + i) 0 (omega arith)
+    met-spare : y ≡ cond (ltb i len) 240 255
+    met-spare = row ∙ row-at 240 255 len i (t .small) l
 
     listed-step : i < len → isPadded (len - i) (drop i xs) ≡ leb x 15 && isPadded (len - (i + 1)) (drop (i + 1) xs)
     unfolding isPadded
@@ -56,8 +65,8 @@ module _ {xs : List ℕ} {len over i : ℕ} (t : PaddedTo xs len over i) where
     gathered : leb (bitOr over (bitAnd x y)) 0 && isPadded (len - (i + 1)) (drop (i + 1) xs) ≡ leb over 0 && isPadded (len - i) (drop i xs)
     gathered =
         ⊎-elim
-        (λ h. gather over (bitAnd x y) (high-zero 4 4 x (met-spare ∙ rw (lt-ltb (12 - len + i) 12 (omega (arith, t .small)))) byte) _ ∙ ap (λ (b : Bool). leb over 0 && b) (sym (listed-step (h .0))))
-        (λ h. gather over (bitAnd x y) (high-zero 8 0 x (met-spare ∙ rw (le-ltb (12 - len + i) 12 (omega (arith, t .small)))) byte) _ ∙ ap (λ (b : Bool). leb over 0 && b) (sym (past-step (h .0))))
+        (λ h. gather over (bitAnd x y) (high-zero 4 4 x (met-spare ∙ rw (h .1)) byte) _ ∙ ap (λ (b : Bool). leb over 0 && b) (sym (listed-step (h .0))))
+        (λ h. gather over (bitAnd x y) (high-zero 8 0 x (met-spare ∙ rw (h .1)) byte) _ ∙ ap (λ (b : Bool). leb over 0 && b) (sym (past-step (h .0))))
         (lt-cases i len)
 
     pub padded-more : PaddedTo xs len (bitOr over (bitAnd x y)) (i + 1)
