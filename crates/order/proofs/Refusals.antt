@@ -1,8 +1,8 @@
 -- The refusal table: what a number tells, and how an answer follows from its checks.
 -- Assumes nothing.
-use Prim.Native.Nat.{ℕ, _≤_, _<_}
+use Prim.Native.Nat.{ℕ, zero, suc, _≤_, _<_}
 use mathlib.Core.Path.{_≡_, refl, sym, ap, _∙_}
-use mathlib.Core.Bool.{Bool, true, false, and-false}
+use mathlib.Core.Bool.{Bool, true, false, and-false, true≢false}
 use mathlib.Core.List.{List, [], _∷_, _++_}
 use native.Mathlib.Omega.{arith}
 use lib.Dec.{leb}
@@ -39,26 +39,26 @@ outcome-at (Refused BadRecord) = refl
 pub outcome-by-number : (a b : Outcome) → outcomeNumber a ≡ outcomeNumber b → a ≡ b
 outcome-by-number a b e = sym (outcome-at a) ∙ ap (λ (k : ℕ). getD outcomes k Done) e ∙ outcome-at b
 
--- no refusal has the number 0
-pub refused-zeros : {A : Type 0} (r : Refusal) (result zeros : A) → ifDone (refusalNumber r) result zeros ≡ zeros
-refused-zeros Size result zeros = refl
-refused-zeros NoGroup result zeros = refl
-refused-zeros NoCell result zeros = refl
-refused-zeros NoOrder result zeros = refl
-refused-zeros NoSymbol result zeros = refl
-refused-zeros Blank result zeros = refl
-refused-zeros Lost result zeros = refl
-refused-zeros Worn result zeros = refl
-refused-zeros CapUp result zeros = refl
-refused-zeros ListShort result zeros = refl
-refused-zeros Coordinate result zeros = refl
-refused-zeros BadRecord result zeros = refl
-
 pub refusal-by-number : (r s : Refusal) → refusalNumber r ≡ refusalNumber s → r ≡ s
 refusal-by-number r s e = let o : Refused r ≡ Refused s = outcome-by-number (Refused r) (Refused s) e in cc
 
+isDone : Outcome → Bool
+isDone Done = true
+isDone (Refused r) = false
+
+-- no refusal has the number 0
 pub not-zero : (r : Refusal) → refusalNumber r ≡ 0 → ⊥
-not-zero r e = let z : _≡_ {A = ℕ} 1 0 = sym (refused-zeros r 0 1) ∙ ap (λ (k : ℕ). ifDone k 0 1) e in omega arith
+unfolding outcomes isDone
+not-zero r e =
+    let done : Refused r ≡ Done = sym (outcome-at (Refused r)) ∙ ap (λ (k : ℕ). getD outcomes k Done) e in
+    true≢false (sym (ap isDone done))
+
+pub refused-zeros : {A : Type 0} (r : Refusal) (result zeros : A) → ifDone (refusalNumber r) result zeros ≡ zeros
+refused-zeros {A} r result zeros = go (refusalNumber r) refl
+  where
+    go : (k : ℕ) → refusalNumber r ≡ k → ifDone k result zeros ≡ zeros
+    go zero e = absurd (not-zero r e)
+    go (suc k) e = refl
 
 -- ---- checks
 
