@@ -68,7 +68,7 @@ open-group n e =
     let clear : List ℕ = replicate (12 - n) 0 in
     rw (t .1)
     (record {
-      passes = rules-hold (opened n) (record { small = s .0; large = s .1; levels = zeros-row 4095 n; caps = full-row 4095 n });
+      passes = rules-hold (opened n) (record { small = s .0; large = s .1; levels = zeros-row 4095 n 12; caps = full-row 4095 n });
       levels = refl;
       caps = length-append full clear ∙ omega (arith, length-replicate {A = ℕ} n 4095, length-replicate {A = ℕ} (12 - n) 0);
     })
@@ -91,4 +91,4 @@ wear-group g c cap h =
 pub erase-group : (g : Group) → IsGroup g → IsGroup (eraseOf g .value)
 unfolding eraseOf
 erase-group g h =
-    told-value IsGroup (groupChecks g) _ g (λ e. group-with g h (replicate 12 0) (g .caps) _ (zeros-row 4095 (g .n)) refl (at-most-refl (g .caps))) h
+    told-value IsGroup (groupChecks g) _ g (λ e. group-with g h (replicate 12 0) (g .caps) _ (zeros-row 4095 (g .n) 12) refl (at-most-refl (g .caps))) h

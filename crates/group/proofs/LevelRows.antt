@@ -46,6 +46,12 @@ at-most-gathered i over ls cs l c =
 
 -- ---- numbers up to m
 
+-- the same of each number against m
+pub all-gathered : (i over m : ℕ) (xs : List ℕ) → i < length xs
+    → (leb (bitOr over (getD xs i 0 - m)) 0 && allAtMost m (drop (i + 1) xs)) ≡ (leb over 0 && allAtMost m (drop i xs))
+unfolding allAtMost
+all-gathered i over m xs l = rw (drop-up xs i l) (gather over (getD xs i 0 - m) (excess-test (getD xs i 0) m) _)
+
 pub all-at : (m : ℕ) (xs : List ℕ) → allAtMost m xs ≡ true → (i : ℕ) → getD xs i 0 ≤ m
 unfolding allAtMost
 all-at m [] e i = omega arith
@@ -168,9 +174,9 @@ unfolding allAtMost
 zeros-low m zero = refl
 zeros-low m (suc k) = rw (le-leb 0 m (omega arith)) (zeros-low m k)
 
-pub zeros-row : (m n : ℕ) → isRow m n (replicate 12 0) ≡ true
+pub zeros-row : (m n k : ℕ) → isRow m n (replicate k 0) ≡ true
 unfolding isRow
-zeros-row m n = rw (zeros-low m 12, all-drop 0 n (replicate 12 0) (zeros-low 0 12)) refl
+zeros-row m n k = rw (zeros-low m k, all-drop 0 n (replicate k 0) (zeros-low 0 k)) refl
 
 -- m in each of n places
 pub full-row : (m n : ℕ) → isRow m n (replicate n m ++ replicate (12 - n) 0) ≡ true

@@ -9,7 +9,7 @@ use order::Refusal;
 ghost use mathlib.Core.Path.{_≡_};
 ghost use mathlib.Core.Bool.{true};
 ghost use mathlib.Core.List.{[]};
-ghost use Prim.Native.Nat.{_-_, _≤_};
+ghost use Prim.Native.Nat.{_≤_};
 ghost use Rattle.order.specs.Refusals.{outcomeNumber};
 ghost use Rattle.order.specs.Cells.{isOrder};
 ghost use Rattle.order.specs.Order.{listed};
@@ -144,15 +144,8 @@ fn is_within(levels: [u16; 12], caps: [u16; 12]) -> bool
     let mut over: u16 = 0;
     let mut at = 0;
     while at < 12 {
-        over = over | excess(levels[at], caps[at]);
+        over = over | group::excess(levels[at], caps[at]);
         at += 1;
     }
     over == 0
-}
-
-// By how much a level is above a cap; 0 where it is not.
-fn excess(level: u16, cap: u16) -> u16
-    ensures { λ r. ⌜ r ≡ level - cap ⌝ }
-{
-    if cap < level { level - cap } else { 0 }
 }
