@@ -38,6 +38,9 @@ pub fn refusal(r: Refusal) -> u8 {
         Refusal::ListShort => 10,
         Refusal::Coordinate => 11,
         Refusal::BadRecord => 12,
+        Refusal::RunLimit => 13,
+        Refusal::NoRaise => 14,
+        Refusal::RoomShort => 15,
     }
 }
 

@@ -16,7 +16,7 @@ use mathlib.Core.Bool.{Bool, true, false, cond, _&&_}
 use mathlib.Core.List.{List, [], _∷_}
 use lib.Dec.{leb, eqb}
 use Rattle.order.specs.declared.Refusal.{Refusal}
-use Rattle.order.specs.declared.Refusal.the-variants.{Size, NoGroup, NoCell, NoOrder, NoSymbol, Blank, Lost, Worn, CapUp, ListShort, Coordinate, BadRecord}
+use Rattle.order.specs.declared.Refusal.the-variants.{Size, NoGroup, NoCell, NoOrder, NoSymbol, Blank, Lost, Worn, CapUp, ListShort, Coordinate, BadRecord, RunLimit, NoRaise, RoomShort}
 use Rattle.order.specs.declared.Outcome.{Outcome}
 use Rattle.order.specs.declared.Outcome.the-variants.{Done, Refused}
 
@@ -33,6 +33,9 @@ refusalNumber CapUp = 9
 refusalNumber ListShort = 10
 refusalNumber Coordinate = 11
 refusalNumber BadRecord = 12
+refusalNumber RunLimit = 13
+refusalNumber NoRaise = 14
+refusalNumber RoomShort = 15
 
 abbrev pub outcomeNumber : Outcome → ℕ
 outcomeNumber Done = 0
@@ -57,7 +60,7 @@ abbrev pub isSize : ℕ → Bool
 isSize n = leb 3 n && leb n 12
 
 abbrev pub checkRow : List ℕ
-checkRow = 12 ∷ 1 ∷ 2 ∷ 10 ∷ 3 ∷ 4 ∷ 5 ∷ 11 ∷ 9 ∷ 6 ∷ 7 ∷ 8 ∷ []
+checkRow = 12 ∷ 13 ∷ 1 ∷ 2 ∷ 10 ∷ 3 ∷ 4 ∷ 5 ∷ 11 ∷ 9 ∷ 14 ∷ 6 ∷ 7 ∷ 8 ∷ 15 ∷ []
 
 abbrev pub inRow : List (Bool × Refusal) → List ℕ → Bool
 inRow [] row = true

@@ -55,7 +55,7 @@ pub struct Order {
     pub cells: [Cell; 12],
 }
 
-// The words of document 01's refusal table, in its order.
+// The words of document 01's refusal table, in its order, and those of document 02.
 pub enum Refusal {
     Size,
     NoGroup,
@@ -69,6 +69,9 @@ pub enum Refusal {
     ListShort,
     Coordinate,
     BadRecord,
+    RunLimit,
+    NoRaise,
+    RoomShort,
 }
 
 pub enum Outcome {
@@ -99,7 +102,7 @@ impl Rank {
     }
 }
 
-// The number of a refusal in document 01's table.
+// The number of a refusal in the table.
 pub fn refusal_number(refusal: Refusal) -> u8
     ensures { λ r. ⌜ r ≡ refusalNumber refusal ⌝ }
 {
@@ -116,6 +119,9 @@ pub fn refusal_number(refusal: Refusal) -> u8
         Refusal::ListShort => 10,
         Refusal::Coordinate => 11,
         Refusal::BadRecord => 12,
+        Refusal::RunLimit => 13,
+        Refusal::NoRaise => 14,
+        Refusal::RoomShort => 15,
     }
 }
 

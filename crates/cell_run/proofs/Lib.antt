@@ -1,0 +1,5 @@
+pub mod Checks
+pub mod Rows
+pub mod Runs
+pub mod Told
+pub mod Row

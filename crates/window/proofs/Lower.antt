@@ -1,0 +1,128 @@
+-- Coordinate i of a reading's order counts the cells below i + 1 that do not stand above cell i + 1: a comparison of levels finds it, and no order
+-- has to be made. The tie rule of reading comes in by `above`, and by the four laws of the first section.
+-- Assumes nothing.
+use Prim.Native.Nat.{ℕ, zero, suc, _+_, _-_, _≤_, _<_}
+use mathlib.Core.Path.{_≡_, refl, ap, _∙_}
+use mathlib.Core.Bool.{Bool, true, false, not, _&&_, cond}
+use mathlib.Core.Logic.{⊎-elim}
+use mathlib.Core.List.{List, [], _∷_}
+use native.Mathlib.Nat.{add-zero}
+use native.Mathlib.Omega.{arith}
+use lib.Dec.{ltb}
+use lib.ListN.{getD}
+use borrow.Author.Tests.{le-leb, lt-leb, lt-ltb, le-ltb}
+use Rattle.order.specs.Cells.{tally, countIf, count, below}
+use Rattle.order.proofs.Cells.{tally-ne, tally-le, eq-cases, lt-cases, order-count}
+use Rattle.coordinates.specs.Coordinates.{after, coordinateOf}
+use Rattle.group.specs.Levels.{level}
+use Rattle.sensing.specs.Sense.{above, insert, sorted, sensed}
+use Rattle.writing.proofs.Minimal.{Each}
+use Rattle.sensing.proofs.Sensed.{Stands, Sorted, each-count, sensed-sorted, sensed-is-order}
+
+-- ---- the tie rule
+
+module _ (ls : List ℕ) (x d : ℕ) (l : x < d) where
+  stands-above : Stands ls x d → above ls x d ≡ true
+  unfolding above
+  stands-above s = le-leb (level ls d) (level ls x) (⊎-elim (λ t. omega arith) (λ t. omega arith) s)
+
+  stands-below : Stands ls d x → above ls x d ≡ false
+  unfolding above
+  stands-below s = lt-leb (level ls d) (level ls x) (⊎-elim (λ t. t) (λ t. absurd (omega arith)) s)
+
+level-next : (ls : List ℕ) (c : ℕ) → level ls (suc c) ≡ getD ls c 0
+unfolding level
+level-next ls c = let e : suc c - 1 ≡ c = omega arith in rw e
+
+-- cell x is below cell d in number, and stands below it too
+unfoldable pub under : List ℕ → ℕ → ℕ → Bool
+under ls d x = ltb x d && not (above ls x d)
+
+module _ (ls : List ℕ) (i j : ℕ) (l : j < i) where
+  pub under-lower : getD ls j 0 < getD ls i 0 → tally (under ls (suc i) (suc j)) ≡ 1
+  unfolding under above
+  under-lower h = rw (level-next ls i, level-next ls j, lt-ltb (suc j) (suc i) (omega arith), lt-leb (getD ls i 0) (getD ls j 0) h)
+
+  pub under-not : getD ls i 0 ≤ getD ls j 0 → tally (under ls (suc i) (suc j)) ≡ 0
+  unfolding under above
+  under-not h = rw (level-next ls i, level-next ls j, lt-ltb (suc j) (suc i) (omega arith), le-leb (getD ls i 0) (getD ls j 0) h)
+
+-- ---- in a list by falling level
+
+under-stands : (ls : List ℕ) (d x : ℕ) → Stands ls d x → tally (ltb x d) ≡ tally (under ls d x)
+unfolding under
+under-stands ls d x s = ⊎-elim (λ t. rw (t .1, stands-below ls x d (t .0) s)) (λ t. rw (t .1)) (lt-cases x d)
+
+under-none : (ls : List ℕ) (d x : ℕ) → Stands ls x d → tally (under ls d x) ≡ 0
+unfolding under
+under-none ls d x s = ⊎-elim (λ t. rw (t .1, stands-above ls x d (t .0) s)) (λ t. rw (t .1)) (lt-cases x d)
+
+under-past : (ls : List ℕ) (d x : ℕ) → d ≤ x → tally (under ls d x) ≡ 0
+unfolding under
+under-past ls d x l = rw (le-ltb x d l)
+
+below-under : (ls : List ℕ) (d : ℕ) (xs : List ℕ) → Each (Stands ls d) xs → below d xs ≡ countIf (under ls d) xs
+below-under ls d [] e = refl
+below-under ls d (x ∷ xs) e = omega (arith, under-stands ls d x (e .0), below-under ls d xs (e .1))
+
+-- those that stand after cell d and are below it in number are those under it
+after-under : (ls : List ℕ) (d : ℕ) (xs : List ℕ) → Sorted ls xs → 1 ≤ count d xs → below d (after d xs) ≡ countIf (under ls d) xs
+after-under ls d [] s h = absurd (omega arith)
+after-under ls d (x ∷ xs) s h =
+    ⊎-elim
+    (λ t.
+    let low : Each (Stands ls d) xs = rw (t .0) at (s .0) in
+    rw (t .1) (omega (arith, below-under ls d xs low, under-past ls d x (omega arith))))
+    (λ t.
+    let more : 1 ≤ count d xs = omega (arith, tally-ne x d (t .0)) in
+    rw (t .1) (omega (arith, after-under ls d xs (s .1) more, under-none ls d x (each-count (Stands ls x) d xs (s .0) more))))
+    (eq-cases x d)
+
+-- ---- cell by cell
+
+-- how many of the cells 1 to j pass a test
+unfoldable pub countTo : (ℕ → Bool) → ℕ → ℕ
+countTo test zero = 0
+countTo test (suc j) = countTo test j + tally (test (suc j))
+
+pub count-to-le : (test : ℕ → Bool) (j : ℕ) → countTo test j ≤ j
+unfolding countTo
+count-to-le test zero = omega arith
+count-to-le test (suc j) = omega (arith, count-to-le test j, tally-le (test (suc j)))
+
+module _ (test : ℕ → Bool) (ls : List ℕ) where
+  countIf-insert : (c : ℕ) (ds : List ℕ) → countIf test (insert ls c ds) ≡ tally (test c) + countIf test ds
+  unfolding insert
+  countIf-insert c [] = refl
+  countIf-insert c (d ∷ ds) = go (above ls c d) (countIf-insert c ds)
+    where
+      go : (b : Bool) → countIf test (insert ls c ds) ≡ tally (test c) + countIf test ds
+          → countIf test (cond b (c ∷ d ∷ ds) (d ∷ insert ls c ds)) ≡ tally (test c) + (tally (test d) + countIf test ds)
+      go true e = refl
+      go false e = omega arith
+
+  sorted-count : (b k : ℕ) → countIf test (sorted ls (suc b) k) + countTo test b ≡ countTo test (b + k)
+  unfolding sorted countTo
+  sorted-count b zero = rw (add-zero b) (omega arith)
+  sorted-count b (suc k) =
+      let e : b + suc k ≡ suc b + k = omega arith in
+      rw e (omega (arith, countIf-insert (suc b) (sorted ls (suc (suc b)) k), sorted-count (suc b) k))
+
+-- none past cell i is below cell i + 1 in number
+count-stop : (ls : List ℕ) (i m : ℕ) → countTo (under ls (suc i)) (i + m) ≡ countTo (under ls (suc i)) i
+unfolding countTo
+count-stop ls i zero = rw (add-zero i)
+count-stop ls i (suc m) =
+    let e : i + suc m ≡ suc (i + m) = omega arith in
+    rw e (omega (arith, count-stop ls i m, under-past ls (suc i) (suc (i + m)) (omega arith)))
+
+pub coordinate-under : (n : ℕ) (ls : List ℕ) (i : ℕ) → i < n → coordinateOf (sensed n ls) i ≡ countTo (under ls (suc i)) i
+unfolding coordinateOf sensed
+coordinate-under n ls i l =
+    let test = under ls (suc i) in
+    let o = sensed-is-order n ls in
+    let e : i + (n - i) ≡ n = omega arith in
+    let all : countIf test (sorted ls 1 n) + countTo test 0 ≡ countTo test (0 + n) = sorted-count test ls 0 n in
+    let f : 0 + n ≡ i + (n - i) = omega arith in
+    after-under ls (suc i) (sorted ls 1 n) (sensed-sorted n ls) (omega (arith, order-count n (sensed n ls) o i l))
+    ∙ omega (arith, all, count-to-le test 0, ap (countTo test) f, count-stop ls i (n - i))

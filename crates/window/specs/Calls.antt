@@ -1,0 +1,78 @@
+-- Document 02, request (a): what a call for the numbers of a run's windows answers, and what it leaves in the lists that it is lent.
+--
+--   ring r               the levels of the run's cells, which stand in a ring
+--   levelChecks ls       the checks of a run that is handed in as the list of its levels: 13 for its length and for a level above 4,095
+--   isWidth n w          a window of a run of n cells has 3 to 12 cells, not above n
+--   isStep n w s         a step is from 1 up to the width, and divides n
+--   scratchLevels ls     what the scratch ends with: the run's levels
+--   hasRoom new old      a lent list is long enough for what goes into it
+--   windowChecks held    the checks of a call for windows: those of the run as it is handed in (held), then 13 for width and step, then 15
+--   toldWindows a        what the answer says: its number, and how many numbers were filled in
+--   windowsOf            the answer to the call
+--   putFirst new old     a lent list with new elements first, and the later places untouched
+--   numbersAfter, scratchAfter    the two lent lists after the call: a refusal leaves them as they were
+use Prim.Native.Nat.{ℕ, _/_, _%_}
+use mathlib.Core.Bool.{Bool, _&&_}
+use mathlib.Core.List.{List, [], _∷_, _++_}
+use lib.Dec.{leb, eqb}
+use lib.ListN.{length, take, drop}
+use Rattle.order.specs.declared.Refusal.{Refusal}
+use Rattle.order.specs.declared.Refusal.the-variants.{RunLimit, RoomShort}
+use Rattle.order.specs.Refusals.{refusalNumber, numberOf, ifDone, Told, answer, isSize}
+use Rattle.group.specs.Record.{allAtMost}
+use Rattle.cell_run.specs.declared.Run.{Run}
+use Rattle.cell_run.specs.Run.{isLength}
+use Rattle.window.specs.declared.WindowsAnswer.{WindowsAnswer}
+use Rattle.window.specs.declared.WindowsAnswer.the-variants.{Refused, Filled}
+use Rattle.window.specs.Ring.{windowNumbers}
+
+-- ---- the checks
+
+abbrev pub ring : Run → List ℕ
+ring r = take (r .len) (r .levels)
+
+abbrev pub levelChecks : List ℕ → List (Bool × Refusal)
+levelChecks ls = (isLength (length ls), RunLimit) ∷ (allAtMost 4095 ls, RunLimit) ∷ []
+
+abbrev pub isWidth : ℕ → ℕ → Bool
+isWidth n w = isSize w && leb w n
+
+abbrev pub isStep : ℕ → ℕ → ℕ → Bool
+isStep n w s = leb 1 s && leb s w && eqb (n % s) 0
+
+unfoldable pub scratchLevels : List ℕ → ℕ → ℕ → List ℕ
+scratchLevels ls width step = ls
+
+abbrev pub hasRoom : List ℕ → List ℕ → Bool
+hasRoom new old = leb (length new) (length old)
+
+module _ (held : List (Bool × Refusal)) (ls : List ℕ) (width step : ℕ) (numbers scratch : List ℕ) where
+  abbrev pub windowChecks : List (Bool × Refusal)
+  windowChecks =
+      held
+      ++ (isWidth (length ls) width, RunLimit)
+      ∷ (isStep (length ls) width step, RunLimit)
+      ∷ (hasRoom (windowNumbers ls width step) numbers, RoomShort)
+      ∷ (hasRoom (scratchLevels ls width step) scratch, RoomShort)
+      ∷ []
+
+-- ---- the answer
+
+abbrev pub toldWindows : WindowsAnswer → Told ℕ
+toldWindows (Refused refusal) = record { number = refusalNumber refusal; value = 0 }
+toldWindows (Filled count) = record { number = 0; value = count }
+
+abbrev pub putFirst : List ℕ → List ℕ → List ℕ
+putFirst new old = new ++ drop (length new) old
+
+module _ (held : List (Bool × Refusal)) (ls : List ℕ) (width step : ℕ) (numbers scratch : List ℕ) where
+  unfoldable pub windowsOf : Told ℕ
+  windowsOf = answer (windowChecks held ls width step numbers scratch) (length ls / step) 0
+
+  -- ---- the lists
+
+  unfoldable pub numbersAfter : List ℕ
+  numbersAfter = ifDone (numberOf (windowChecks held ls width step numbers scratch)) (putFirst (windowNumbers ls width step) numbers) numbers
+
+  unfoldable pub scratchAfter : List ℕ
+  scratchAfter = ifDone (numberOf (windowChecks held ls width step numbers scratch)) (putFirst (scratchLevels ls width step) scratch) scratch

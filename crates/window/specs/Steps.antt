@@ -1,0 +1,14 @@
+-- What a private contract asks. No public contract rests on this.
+--
+--   Numberable    a ring, a width and a step within their limits, and lists with room
+use Prim.Native.Nat.{ℕ, _/_, _≤_}
+use mathlib.Core.List.{List}
+use lib.ListN.{length}
+
+pub record Numberable (ring : List ℕ) (width step : ℕ) (numbers scratch : List ℕ) : Type 0 where
+  pub first : 1 ≤ length ring
+  pub wide : width ≤ 12
+  pub inside : width ≤ length ring
+  pub forward : 1 ≤ step
+  pub count : length ring / step ≤ length numbers
+  pub room : length ring ≤ length scratch

@@ -1,0 +1,59 @@
+-- Worked cases, each by computing the definitions. The ring of nine cells has the representation ((3,0,1),(4,2,0),(0,2,2)) that SD 004 gives for its
+-- figure 1, with windows of five cells, three apart.
+-- Assumes nothing.
+use Prim.Native.Nat.{ℕ, suc}
+use mathlib.Core.Path.{_≡_, refl}
+use mathlib.Core.List.{List, [], _∷_, map, reverse}
+use lib.Dec.{ltb}
+use lib.ListN.{getD, drop}
+use Rattle.order.specs.Cells.{countIf}
+use Rattle.coordinates.specs.Coordinates.{coordinateOf}
+use Rattle.group.specs.Levels.{level}
+use Rattle.sensing.specs.Sense.{above, insert, sorted, sensed}
+use Rattle.window.specs.Ring.{factorial, sumTo, windowNumber, windowAt, windowNumbers}
+use Rattle.window_laws.specs.Turn.{turned}
+use Rattle.window.proofs.Summing.{coordinateIn}
+
+-- ---- the paper's example
+
+abbrev figure : List ℕ
+figure = 6 ∷ 3 ∷ 5 ∷ 9 ∷ 4 ∷ 1 ∷ 2 ∷ 7 ∷ 8 ∷ []
+
+-- the paper's digits of the window that starts past p cells: for each of the first three cells, how many lower ones stand to its right
+abbrev lowerToTheRight : ℕ → List ℕ
+lowerToTheRight p =
+    let window = windowAt figure 5 p in
+    map (λ i. countIf (λ l. ltb l (getD window i 0)) (drop (suc i) window)) (0 ∷ 1 ∷ 2 ∷ [])
+
+-- coordinates 4, 3 and 2 of the same window, read backwards
+abbrev backwards : ℕ → List ℕ
+backwards p = map (coordinateIn (reverse (windowAt figure 5 p))) (4 ∷ 3 ∷ 2 ∷ [])
+
+representation : map lowerToTheRight (0 ∷ 3 ∷ 6 ∷ []) ≡ (3 ∷ 0 ∷ 1 ∷ []) ∷ (4 ∷ 2 ∷ 0 ∷ []) ∷ (0 ∷ 2 ∷ 2 ∷ []) ∷ []
+unfolding windowAt
+representation = refl
+
+backwards-same : map backwards (0 ∷ 3 ∷ 6 ∷ []) ≡ map lowerToTheRight (0 ∷ 3 ∷ 6 ∷ [])
+unfolding windowAt sensed sorted insert above level coordinateOf
+backwards-same = refl
+
+-- the last window wraps round; the ring turned by a step has the same numbers, turned by one
+figure-numbers : (windowNumbers figure 5 3 ≡ 44 ∷ 78 ∷ 35 ∷ []) × (windowNumbers (turned 3 figure) 5 3 ≡ 78 ∷ 35 ∷ 44 ∷ [])
+unfolding windowNumbers windowNumber windowAt turned sumTo factorial sensed sorted insert above level coordinateOf
+figure-numbers = (refl, refl)
+
+-- ---- the ends
+
+-- rising levels have the highest number of twelve cells, 12! - 1, and falling ones have 0
+highest :
+    (windowNumber (1 ∷ 2 ∷ 3 ∷ 4 ∷ 5 ∷ 6 ∷ 7 ∷ 8 ∷ 9 ∷ 10 ∷ 11 ∷ 12 ∷ []) ≡ 479001599)
+    × (windowNumber (12 ∷ 11 ∷ 10 ∷ 9 ∷ 8 ∷ 7 ∷ 6 ∷ 5 ∷ 4 ∷ 3 ∷ 2 ∷ 1 ∷ []) ≡ 0)
+unfolding windowNumber sumTo factorial sensed sorted insert above level coordinateOf
+highest = (refl, refl)
+
+-- ---- level cells
+
+-- they go by their numbers in the window: by those in the ring the last two windows, which wrap round, would have the numbers 5 and 1
+level-cells : windowNumbers (2 ∷ 1 ∷ 1 ∷ 2 ∷ []) 3 1 ≡ 0 ∷ 4 ∷ 3 ∷ 0 ∷ []
+unfolding windowNumbers windowNumber windowAt sumTo factorial sensed sorted insert above level coordinateOf
+level-cells = refl

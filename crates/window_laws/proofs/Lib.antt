@@ -1,0 +1,5 @@
+pub mod Digits
+pub mod Numbers
+pub mod Compared
+pub mod Turning
+pub mod Bench
