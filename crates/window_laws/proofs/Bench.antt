@@ -6,11 +6,14 @@ use mathlib.Core.Path.{_≡_, refl}
 use mathlib.Core.List.{List, [], _∷_, map, reverse}
 use lib.Dec.{ltb}
 use lib.ListN.{getD, drop}
+use Rattle.order.specs.Refusals.{numberOf, answer}
 use Rattle.order.specs.Cells.{countIf}
 use Rattle.coordinates.specs.Coordinates.{coordinateOf}
 use Rattle.group.specs.Levels.{level}
+use Rattle.group.specs.Record.{allAtMost}
 use Rattle.sensing.specs.Sense.{above, insert, sorted, sensed}
 use Rattle.window.specs.Ring.{factorial, sumTo, windowNumber, windowAt, windowNumbers}
+use Rattle.window.specs.Calls.{levelChecks, scratchLevels, windowsOf, numbersAfter, scratchAfter}
 use Rattle.window_laws.specs.Turn.{turned}
 use Rattle.window.proofs.Summing.{coordinateIn}
 
@@ -53,7 +56,31 @@ highest = (refl, refl)
 
 -- ---- level cells
 
+abbrev tied : List ℕ
+tied = 2 ∷ 1 ∷ 1 ∷ 2 ∷ []
+
 -- they go by their numbers in the window: by those in the ring the last two windows, which wrap round, would have the numbers 5 and 1
-level-cells : windowNumbers (2 ∷ 1 ∷ 1 ∷ 2 ∷ []) 3 1 ≡ 0 ∷ 4 ∷ 3 ∷ 0 ∷ []
+level-cells : windowNumbers tied 3 1 ≡ 0 ∷ 4 ∷ 3 ∷ 0 ∷ []
 unfolding windowNumbers windowNumber windowAt sumTo factorial sensed sorted insert above level coordinateOf
 level-cells = refl
+
+-- ---- whole calls
+
+-- on lists with a place to spare, which keeps its 7
+abbrev numbers : List ℕ
+numbers = 7 ∷ 7 ∷ 7 ∷ 7 ∷ 7 ∷ []
+
+filled :
+    (windowsOf (levelChecks tied) tied 3 1 numbers numbers ≡ record { number = 0; value = 4 })
+    × (numbersAfter (levelChecks tied) tied 3 1 numbers numbers ≡ 0 ∷ 4 ∷ 3 ∷ 0 ∷ 7 ∷ [])
+    × (scratchAfter (levelChecks tied) tied 3 1 numbers numbers ≡ 2 ∷ 1 ∷ 1 ∷ 2 ∷ 7 ∷ [])
+unfolding windowsOf numbersAfter scratchAfter scratchLevels allAtMost answer numberOf windowNumbers windowNumber windowAt sumTo factorial sensed sorted insert above level coordinateOf
+filled = (refl, refl, refl)
+
+-- a step of 3 does not divide the length, and comes before a scratch of 3 places, which is too short
+refused :
+    (windowsOf (levelChecks tied) tied 3 3 numbers (drop 2 numbers) ≡ record { number = 13; value = 0 })
+    × (windowsOf (levelChecks tied) tied 3 2 numbers (drop 2 numbers) ≡ record { number = 15; value = 0 })
+    × (numbersAfter (levelChecks tied) tied 3 2 numbers (drop 2 numbers) ≡ numbers)
+unfolding windowsOf numbersAfter scratchLevels allAtMost answer numberOf windowNumbers
+refused = (refl, refl, refl)
