@@ -1,4 +1,4 @@
--- Lists of twelve levels or caps, read and changed by cell number.
+-- Lists of levels or caps, read and changed by cell number.
 --
 --   level ls c       the level, or the cap, of cell c
 --   put ls c v       the list with that of cell c set to v

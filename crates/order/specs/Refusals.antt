@@ -1,4 +1,4 @@
--- Document 01, "Refusal table": the numbers, which one is given, and what an answer says in these terms.
+-- Document 01, "Refusal table", with the numbers of document 02 from 13 on: the numbers, which one is given, and what an answer says in these terms.
 --
 --   refusalNumber r     the number of a refusal
 --   outcomeNumber o     the number of an outcome: 0 is done
@@ -7,7 +7,7 @@
 --   Told A              an answer in the table's terms: its number, and the value of type A beside it
 --   answer checks a z   0 and the result a where all checks hold, else the number and the zeros z
 --   isSize n            n is from 3 to 12
---   checkRow            the order in which checks run
+--   checkRow            the order in which checks run: document 01's row, with 13 before 3, 14 after 3 and 15 last
 --   inRow checks row    checks are listed in the order of the row
 --
 -- A check is a pair: whether it holds, and the refusal that applies where it does not. Checks are listed in the order in which they run.

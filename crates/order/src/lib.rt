@@ -15,7 +15,7 @@ const ALL_BITS: u8 = 255;
 
 const ABOVE_FOUR_BITS: u8 = ALL_BITS - 15;
 
-// From place 12 - n on: the bits that must be 0 in each of the twelve places of an order of n cells. A cell's number has four bits.
+// From place 12 - n on: the bits that must be 0 in each of the twelve places of an order of n cells. The number of a group's cell has four bits.
 const SPARE: [u8; 24] = [
     ABOVE_FOUR_BITS,
     ABOVE_FOUR_BITS,

@@ -21,29 +21,29 @@ use Rattle.window.proofs.Numbering.{numbers-length}
 refused-keeps : (f : Refusal) {k : ℕ} (new old : List ℕ) → k ≡ refusalNumber f → old ≡ ifDone k new old
 refused-keeps f new old e = rw e (sym (refused-zeros f new old))
 
-module _ (held : List (Bool × Refusal)) (ls : List ℕ) (width step : ℕ) (numbers scratch : List ℕ) where
+module _ (ofRun : List (Bool × Refusal)) (ls : List ℕ) (width step : ℕ) (numbers scratch : List ℕ) where
   -- the answer is a, and the lists are then these
   abbrev pub Answered : Told ℕ → List ℕ → List ℕ → Type 0
   Answered a ns ss =
-      (a ≡ windowsOf held ls width step numbers scratch)
-      × ((ns ≡ numbersAfter held ls width step numbers scratch) × (ss ≡ scratchAfter held ls width step numbers scratch))
+      (a ≡ windowsOf ofRun ls width step numbers scratch)
+      × ((ns ≡ numbersAfter ofRun ls width step numbers scratch) × (ss ≡ scratchAfter ofRun ls width step numbers scratch))
 
-  refused-by : (f : Refusal) → numberOf (windowChecks held ls width step numbers scratch) ≡ refusalNumber f
+  refused-by : (f : Refusal) → numberOf (windowChecks ofRun ls width step numbers scratch) ≡ refusalNumber f
       → Answered (record { number = refusalNumber f; value = 0 }) numbers scratch
   unfolding windowsOf numbersAfter scratchAfter
   refused-by f e =
       (told-refused _ _ _ f e, (refused-keeps f _ numbers e, refused-keeps f _ scratch e))
 
   -- the run that is handed in is refused
-  pub held-refuse : (f : Refusal) → numberOf held ≡ refusalNumber f → Answered (record { number = refusalNumber f; value = 0 }) numbers scratch
-  held-refuse f e = refused-by f (refused-first _ held f e)
+  pub run-refused : (f : Refusal) → numberOf ofRun ≡ refusalNumber f → Answered (record { number = refusalNumber f; value = 0 }) numbers scratch
+  run-refused f e = refused-by f (refused-first _ ofRun f e)
 
   -- it passes, and the later checks decide
-  pub held-passed : {a : Told ℕ} {ns ss : List ℕ} → numberOf held ≡ 0
+  pub run-passed : {a : Told ℕ} {ns ss : List ℕ} → numberOf ofRun ≡ 0
       → (a ≡ windowsOf [] ls width step numbers scratch) × ((ns ≡ numbersAfter [] ls width step numbers scratch) × (ss ≡ scratchAfter [] ls width step numbers scratch))
       → Answered a ns ss
   unfolding windowsOf numbersAfter scratchAfter answer
-  held-passed d t = let e = later-decide (windowChecks [] ls width step numbers scratch) held d in (rw e (t .0), (rw e (t .1 .0), rw e (t .1 .1)))
+  run-passed d t = let e = later-decide (windowChecks [] ls width step numbers scratch) ofRun d in (rw e (t .0), (rw e (t .1 .0), rw e (t .1 .1)))
 
 module _ (ls : List ℕ) (width step : ℕ) (numbers scratch : List ℕ) where
   pub width-refused : isWidth (length ls) width ≡ false → Answered [] ls width step numbers scratch (record { number = 13; value = 0 }) numbers scratch
@@ -91,4 +91,4 @@ module _ (ls : List ℕ) (width step : ℕ) (numbers scratch : List ℕ) where
           pub filled : {ns ss : List ℕ} → ns ≡ putFirst (windowNumbers ls width step) numbers → ss ≡ putFirst ls scratch
               → Answered [] ls width step numbers scratch (record { number = 0; value = length ls / step }) ns ss
           unfolding windowsOf numbersAfter scratchAfter scratchLevels
-          filled {ns} {ss} e f = (told-done _ _ _ all-pass, (rw (e, all-pass), rw (f, all-pass)))
+          filled {ns} {ss} e f = (rw (← numbers-length ls width step) (told-done _ _ _ all-pass), (rw (e, all-pass), rw (f, all-pass)))

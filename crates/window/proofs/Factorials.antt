@@ -5,7 +5,7 @@ use mathlib.Core.Path.{_≡_}
 use mathlib.Core.Logic.{⊎-elim}
 use native.Mathlib.Nat.{suc-mul, le-refl, mul-le-mul-right, mul-pos, eq-or-lt-of-le, le-of-suc-le-suc, zero-lt-suc}
 use native.Mathlib.Omega.{arith}
-use Rattle.window.specs.Ring.{factorial, sumTo}
+use Rattle.window.specs.Ring.{factorial, factorialSum}
 
 pub factorial-pos : (n : ℕ) → 0 < factorial n
 unfolding factorial
@@ -29,8 +29,8 @@ pub fewer : (x : ℕ → ℕ) (m : ℕ) → Digits x (suc m) → Digits x m
 fewer x m r i l = r i (omega arith)
 
 -- the number is below the next factorial
-pub sum-below : (x : ℕ → ℕ) (m : ℕ) → Digits x m → sumTo x m < factorial (suc m)
-unfolding sumTo factorial
+pub sum-below : (x : ℕ → ℕ) (m : ℕ) → Digits x m → factorialSum x m < factorial (suc m)
+unfolding factorialSum factorial
 sum-below x zero r = omega arith
 sum-below x (suc m) r =
     let f = factorial (suc m) in

@@ -7,30 +7,34 @@ use native.Mathlib.Nat.{mul-comm}
 use native.Mathlib.Numerals.{add-one}
 use native.Mathlib.Omega.{arith}
 use lib.ListN.{length}
+use Rattle.order.proofs.Cells.{IsOrder}
 use Rattle.coordinates.specs.Coordinates.{coordinateOf}
 use Rattle.coordinates.proofs.RoundTrip.{coordinate-le}
 use Rattle.sensing.specs.Sense.{sensed}
 use Rattle.sensing.proofs.Sensed.{sensed-is-order}
-use Rattle.window.specs.Ring.{factorial, sumTo, windowNumber}
+use Rattle.window.specs.Ring.{factorial, factorialSum, orderNumber, windowNumber}
 use Rattle.window.proofs.Factorials.{Digits, factorial-grows, sum-below}
 
 -- the coordinates of a window
 abbrev pub coordinateIn : List ℕ → ℕ → ℕ
 coordinateIn ls = coordinateOf (sensed (length ls) ls)
 
-pub coordinate-low : (ls : List ℕ) (m : ℕ) → m ≤ length ls → Digits (coordinateIn ls) m
-coordinate-low ls m l i h = coordinate-le (length ls) (sensed (length ls) ls) (sensed-is-order (length ls) ls) i (omega arith)
+pub order-digits : (n : ℕ) (xs : List ℕ) → IsOrder n xs → (m : ℕ) → m ≤ n → Digits (coordinateOf xs) m
+order-digits n xs o m l i h = coordinate-le n xs o i (omega arith)
+
+coordinate-low : (ls : List ℕ) (m : ℕ) → m ≤ length ls → Digits (coordinateIn ls) m
+coordinate-low ls = order-digits (length ls) (sensed (length ls) ls) (sensed-is-order (length ls) ls)
 
 -- the coordinates before i are summed, and i factorial is at hand
 pub record Summing (ls : List ℕ) (number product i : ℕ) : Type 0 where
   pub small : length ls ≤ 12
   pub first : 1 ≤ i
   pub last : i - 1 ≤ length ls - 1
-  pub sum : number ≡ sumTo (coordinateIn ls) (i - 1)
+  pub sum : number ≡ factorialSum (coordinateIn ls) (i - 1)
   pub weight : product ≡ factorial i
 
 pub start : (ls : List ℕ) → length ls ≤ 12 → Summing ls 0 1 1
-unfolding sumTo factorial
+unfolding factorialSum factorial
 start ls l = record { small = l; first = omega arith; last = omega arith; sum = refl; weight = refl }
 
 -- the factorials are those of numbers up to 12
@@ -40,12 +44,12 @@ least i l = let e : factorial 12 ≡ 479001600 = refl in omega (arith, e, factor
 
 module _ {ls : List ℕ} {number product i : ℕ} (s : Summing ls number product i) where
   module _ (l : i < length ls) {v : ℕ} (e : v ≡ coordinateIn ls i) where
-    next-sum : number + v * product ≡ sumTo (coordinateIn ls) (i + 1 - 1)
-    unfolding sumTo
+    next-sum : number + v * product ≡ factorialSum (coordinateIn ls) (i + 1 - 1)
+    unfolding factorialSum
     next-sum =
         let up : i + 1 - 1 ≡ suc (i - 1) = omega (arith, s .first) in
         let here : suc (i - 1) ≡ i = omega (arith, s .first) in
-        rw (up, e, s .sum, s .weight) (ap (λ (k : ℕ). sumTo (coordinateIn ls) (i - 1) + coordinateIn ls k * factorial k) (sym here))
+        rw (up, e, s .sum, s .weight) (ap (λ (k : ℕ). factorialSum (coordinateIn ls) (i - 1) + coordinateIn ls k * factorial k) (sym here))
 
     pub sum-fits : number + v * product < 479001600
     sum-fits =
@@ -64,5 +68,5 @@ module _ {ls : List ℕ} {number product i : ℕ} (s : Summing ls number product
     step = record { small = s .small; first = omega arith; last = omega arith; sum = next-sum; weight = next-weight }
 
   pub end : length ls ≤ i → number ≡ windowNumber ls
-  unfolding windowNumber
+  unfolding windowNumber orderNumber
   end l = let e : i - 1 ≡ length ls - 1 = omega (arith, s .last) in rw (s .sum, e)

@@ -4,14 +4,17 @@
 --   levelChecks ls       the checks of a run that is handed in as the list of its levels: 13 for its length and for a level above 4,095
 --   isWidth n w          a window of a run of n cells has 3 to 12 cells, not above n
 --   isStep n w s         a step is from 1 up to the width, and divides n
---   scratchLevels ls     what the scratch ends with: the run's levels
+--   scratchLevels ls     what stands first in the scratch after the call: the run's levels, whatever the width and the step
 --   hasRoom new old      a lent list is long enough for what goes into it
---   windowChecks held    the checks of a call for windows: those of the run as it is handed in (held), then 13 for width and step, then 15
 --   toldWindows a        what the answer says: its number, and how many numbers were filled in
---   windowsOf            the answer to the call
 --   putFirst new old     a lent list with new elements first, and the later places untouched
---   numbersAfter, scratchAfter    the two lent lists after the call: a refusal leaves them as they were
-use Prim.Native.Nat.{ℕ, _/_, _%_}
+--
+-- Of a call: ofRun are the checks of the run as it is handed in, ls the levels of its ring, numbers and scratch the lists that are lent.
+--
+--   windowChecks         its checks: those of the run, then 13 for width and step, then 15
+--   windowsOf            its answer: 0 and how many numbers were filled in, else the refusal and 0
+--   numbersAfter, scratchAfter    the two lent lists after it: a refusal leaves them as they were
+use Prim.Native.Nat.{ℕ, _%_}
 use mathlib.Core.Bool.{Bool, _&&_}
 use mathlib.Core.List.{List, [], _∷_, _++_}
 use lib.Dec.{leb, eqb}
@@ -46,10 +49,10 @@ scratchLevels ls width step = ls
 abbrev pub hasRoom : List ℕ → List ℕ → Bool
 hasRoom new old = leb (length new) (length old)
 
-module _ (held : List (Bool × Refusal)) (ls : List ℕ) (width step : ℕ) (numbers scratch : List ℕ) where
+module _ (ofRun : List (Bool × Refusal)) (ls : List ℕ) (width step : ℕ) (numbers scratch : List ℕ) where
   abbrev pub windowChecks : List (Bool × Refusal)
   windowChecks =
-      held
+      ofRun
       ++ (isWidth (length ls) width, RunLimit)
       ∷ (isStep (length ls) width step, RunLimit)
       ∷ (hasRoom (windowNumbers ls width step) numbers, RoomShort)
@@ -65,14 +68,14 @@ toldWindows (Filled count) = record { number = 0; value = count }
 abbrev pub putFirst : List ℕ → List ℕ → List ℕ
 putFirst new old = new ++ drop (length new) old
 
-module _ (held : List (Bool × Refusal)) (ls : List ℕ) (width step : ℕ) (numbers scratch : List ℕ) where
+module _ (ofRun : List (Bool × Refusal)) (ls : List ℕ) (width step : ℕ) (numbers scratch : List ℕ) where
   unfoldable pub windowsOf : Told ℕ
-  windowsOf = answer (windowChecks held ls width step numbers scratch) (length ls / step) 0
+  windowsOf = answer (windowChecks ofRun ls width step numbers scratch) (length (windowNumbers ls width step)) 0
 
   -- ---- the lists
 
   unfoldable pub numbersAfter : List ℕ
-  numbersAfter = ifDone (numberOf (windowChecks held ls width step numbers scratch)) (putFirst (windowNumbers ls width step) numbers) numbers
+  numbersAfter = ifDone (numberOf (windowChecks ofRun ls width step numbers scratch)) (putFirst (windowNumbers ls width step) numbers) numbers
 
   unfoldable pub scratchAfter : List ℕ
-  scratchAfter = ifDone (numberOf (windowChecks held ls width step numbers scratch)) (putFirst (scratchLevels ls width step) scratch) scratch
+  scratchAfter = ifDone (numberOf (windowChecks ofRun ls width step numbers scratch)) (putFirst (scratchLevels ls width step) scratch) scratch

@@ -1,11 +1,12 @@
 -- Document 02, request (a): the number of a window, and the windows along a ring of cells (SD 004).
 --
---   factorial n                   1 times 2 times .. times n
---   sumTo x m                     the sum of x i times i factorial, for i from 1 to m
---   windowNumber ls               the number of a window with the levels ls. Its cells are numbered from 1 and ordered as a reading orders those
---                                 of a group; the number is the sum of coordinate i times i factorial
+--   factorial n                   1 times 2 times .. times n; 1 where n is 0
+--   factorialSum x m              the sum of x i times i factorial, for i from 1 to m
+--   orderNumber n xs              the number of an order of n cells: the sum of coordinate i times i factorial
+--   windowNumber ls               the number of a window whose cells, numbered from 1, have the levels ls: that of the order in which a reading
+--                                 finds them
 --   windowAt ring width p         the levels of the window of so many cells that starts with cell p + 1 of the ring, in ring order
---   windowNumbers ring width step    the numbers of the windows that start with cells 1, 1 + step and so on
+--   windowNumbers ring width step    the numbers of the windows that start with cells 1, 1 + step and so on, once round the ring
 use Prim.Native.Nat.{ℕ, zero, suc, _+_, _-_, _*_, _/_, _%_}
 use mathlib.Core.List.{List}
 use lib.ListN.{length, getD}
@@ -17,12 +18,15 @@ unfoldable pub factorial : ℕ → ℕ
 factorial zero = 1
 factorial (suc n) = suc n * factorial n
 
-unfoldable pub sumTo : (ℕ → ℕ) → ℕ → ℕ
-sumTo x zero = 0
-sumTo x (suc i) = sumTo x i + x (suc i) * factorial (suc i)
+unfoldable pub factorialSum : (ℕ → ℕ) → ℕ → ℕ
+factorialSum x zero = 0
+factorialSum x (suc i) = factorialSum x i + x (suc i) * factorial (suc i)
+
+unfoldable pub orderNumber : ℕ → List ℕ → ℕ
+orderNumber n xs = factorialSum (coordinateOf xs) (n - 1)
 
 unfoldable pub windowNumber : List ℕ → ℕ
-windowNumber ls = sumTo (coordinateOf (sensed (length ls) ls)) (length ls - 1)
+windowNumber ls = orderNumber (length ls) (sensed (length ls) ls)
 
 unfoldable pub windowAt : List ℕ → ℕ → ℕ → List ℕ
 windowAt ring width p = tabulate width (λ j. getD ring ((p + j) % length ring) 0)

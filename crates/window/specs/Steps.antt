@@ -1,6 +1,6 @@
 -- What a private contract asks. No public contract rests on this.
 --
---   Numberable    a ring, a width and a step within their limits, and lists with room
+--   Numberable    what numbering the windows needs of a ring, a width, a step and the two lists
 use Prim.Native.Nat.{ℕ, _/_, _≤_}
 use mathlib.Core.List.{List}
 use lib.ListN.{length}

@@ -46,7 +46,7 @@ pub fn windows(
     along(&levels[..len], width, step, numbers, scratch)
 }
 
-// The same for a run that is handed in as the list of its levels.
+// The same for the levels of a run that are handed in without a record.
 pub fn windows_of(
     levels: &[u16],
     width: usize,
@@ -177,7 +177,8 @@ fn number_of(window: &[u16]) -> u32
     number
 }
 
-// Coordinate i of a window: how many of the i cells before cell i + 1 stand after it in the order, which are those of lower level.
+// Coordinate i of a window: how many of the i cells before cell i + 1 stand after it in the order, which are, by the tie rule of reading, those of
+// lower level.
 fn coordinate(window: &[u16], i: usize) -> u32
     requires { ⌜ (i < length (now window)) × (length (now window) ≤ 12) ⌝ }
     ensures { λ r. ⌜ r ≡ coordinateOf (sensed (length (now (window .entry))) (now (window .entry))) i ⌝ }

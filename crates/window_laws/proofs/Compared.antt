@@ -14,8 +14,12 @@ use Rattle.writing.proofs.Orders.{Falling, falling-shows}
 use Rattle.sensing.specs.Sense.{sensed}
 use Rattle.sensing.proofs.Sensed.{sensed-is-order, sensed-stands, sensed-back}
 use Rattle.window.specs.Ring.{windowNumber}
-use Rattle.window_laws.specs.Compared.{Different, Alike}
-use Rattle.window_laws.proofs.Numbers.{orderIn, number-by-order}
+use Rattle.window_laws.specs.Compared.{Different, SameComparisons}
+use Rattle.window_laws.proofs.Numbers.{number-by-order}
+
+-- the order in which a reading finds a window's cells
+abbrev orderIn : List ℕ → List ℕ
+orderIn ls = sensed (length ls) ls
 
 cell-range : (ls : List ℕ) (k : ℕ) → k < length ls → (1 ≤ getD (orderIn ls) k 0) × (getD (orderIn ls) k 0 ≤ length ls)
 cell-range ls = order-range (length ls) (orderIn ls) (sensed-is-order (length ls) ls)
@@ -34,7 +38,7 @@ falls ls d i j h l =
 
 -- ---- from comparisons to the order
 
-module _ (ls ms : List ℕ) (n : length ls ≡ length ms) (d : Different ls) (a : Alike ls ms) where
+module _ (ls ms : List ℕ) (n : length ls ≡ length ms) (d : Different ls) (a : SameComparisons ls ms) where
   -- the other window's levels fall along it too
   alike-falling : Falling 1 (orderIn ls) ms
   unfolding Falling level
@@ -76,7 +80,7 @@ module _ (ls ms : List ℕ) (n : length ls ≡ length ms) (d : Different ls) (f 
             ]
       ]
 
-  order-alike : Alike ls ms
+  order-alike : SameComparisons ls ms
   order-alike i j hi hj l =
       let xs = orderIn ls in
       let o = sensed-is-order (length ls) ls in
@@ -84,7 +88,7 @@ module _ (ls ms : List ℕ) (n : length ls ≡ length ms) (d : Different ls) (f 
       let q = stands 1 (suc j) xs (omega (arith, order-count (length ls) xs o j hj)) in
       placed i j (p .index) (q .index) (omega (arith, p .inside, o .size)) (omega (arith, q .inside, o .size)) (p .there) (q .there) l
 
-pub number-by-comparison : (ls ms : List ℕ) → length ls ≡ length ms → Different ls → Different ms → (windowNumber ls ≡ windowNumber ms) ↔ Alike ls ms
+pub number-by-comparison : (ls ms : List ℕ) → length ls ≡ length ms → Different ls → Different ms → (windowNumber ls ≡ windowNumber ms) ↔ SameComparisons ls ms
 number-by-comparison ls ms n d f =
     let t = number-by-order ls ms n in
     ((λ e. order-alike ls ms n d f (t .0 e)), (λ a. t .1 (alike-order ls ms n d a)))

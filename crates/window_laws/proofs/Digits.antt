@@ -7,12 +7,12 @@ use mathlib.Core.Logic.{⊎-elim}
 use native.Mathlib.Decide.{decLt}
 use native.Mathlib.Nat.{suc-mul, add-mul, mul-assoc, le-refl, mul-le-mul-right, mod-lt, mod-eq-of-lt, mod-one, add-mul-mod-self-right, div-add-mod', eq-or-lt-of-le, le-of-suc-le-suc, zero-lt-suc}
 use native.Mathlib.Omega.{arith}
-use Rattle.window.specs.Ring.{factorial, sumTo}
+use Rattle.window.specs.Ring.{factorial, factorialSum}
 use Rattle.window.proofs.Factorials.{factorial-pos, Digits, fewer, sum-below}
 use Rattle.window_laws.specs.Numbered.{digit}
 
-pub sum-ext : (x y : ℕ → ℕ) (m : ℕ) → ((i : ℕ) → 1 ≤ i → i ≤ m → x i ≡ y i) → sumTo x m ≡ sumTo y m
-unfolding sumTo
+pub sum-ext : (x y : ℕ → ℕ) (m : ℕ) → ((i : ℕ) → 1 ≤ i → i ≤ m → x i ≡ y i) → factorialSum x m ≡ factorialSum y m
+unfolding factorialSum
 sum-ext x y zero h = refl
 sum-ext x y (suc m) h = rw (sum-ext x y m (λ i p l. h i p (omega arith)), h (suc m) (omega arith) (le-refl _))
 
@@ -29,13 +29,13 @@ last-same a b d e f h k q =
       | no g ↦ elim (decLt e d) [ yes l ↦ absurd (last-not-less b a e d f k (sym q) l) | no h ↦ omega arith ]
     ]
 
-pub sum-digits : (x y : ℕ → ℕ) (m : ℕ) → Digits x m → Digits y m → sumTo x m ≡ sumTo y m → (i : ℕ) → 1 ≤ i → i ≤ m → x i ≡ y i
-unfolding sumTo
+pub sum-digits : (x y : ℕ → ℕ) (m : ℕ) → Digits x m → Digits y m → factorialSum x m ≡ factorialSum y m → (i : ℕ) → 1 ≤ i → i ≤ m → x i ≡ y i
+unfolding factorialSum
 sum-digits x y zero r s e i p l = absurd (omega arith)
 sum-digits x y (suc m) r s e i p l =
     let last : x (suc m) ≡ y (suc m)
-    = last-same (sumTo x m) (sumTo y m) (x (suc m)) (y (suc m)) (factorial (suc m)) (sum-below x m (fewer x m r)) (sum-below y m (fewer y m s)) e in
-    let front : sumTo x m ≡ sumTo y m = omega (arith, e, ap (λ (d : ℕ). d * factorial (suc m)) last) in
+    = last-same (factorialSum x m) (factorialSum y m) (x (suc m)) (y (suc m)) (factorial (suc m)) (sum-below x m (fewer x m r)) (sum-below y m (fewer y m s)) e in
+    let front : factorialSum x m ≡ factorialSum y m = omega (arith, e, ap (λ (d : ℕ). d * factorial (suc m)) last) in
     ⊎-elim (λ (q : i ≡ suc m). rw q last) (λ h. sum-digits x y m (fewer x m r) (fewer y m s) front i p (le-of-suc-le-suc h)) (eq-or-lt-of-le l)
 
 -- ---- every number
@@ -54,8 +54,8 @@ digit-split k f b p q =
     omega (arith, div-add-mod' k f, ap (λ (t : ℕ). t * f) (div-add-mod' (k / f) b), add-mul (k / f / b * b) d f, mul-assoc (k / f / b) b f) in
     sym (mod-eq-of-lt below) ∙ sym (add-mul-mod-self-right s (k / f / b) (b * f)) ∙ ap (λ (t : ℕ). t % (b * f)) whole
 
-pub sum-of-digits : (k m : ℕ) → sumTo (digit k) m ≡ k % factorial (suc m)
-unfolding sumTo factorial digit
+pub sum-of-digits : (k m : ℕ) → factorialSum (digit k) m ≡ k % factorial (suc m)
+unfolding factorialSum factorial digit
 sum-of-digits k zero = sym (mod-one k)
 sum-of-digits k (suc m) =
     ap (λ (t : ℕ). t + digit k (suc m) * factorial (suc m)) (sum-of-digits k m)

@@ -2,4 +2,5 @@ pub mod Digits
 pub mod Numbers
 pub mod Compared
 pub mod Turning
+pub mod Handed
 pub mod Bench

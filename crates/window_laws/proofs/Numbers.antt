@@ -1,17 +1,17 @@
--- A window's number, over any width: it is below the factorial of the width, it and the window's order determine each other, and every number
--- below the factorial is that of a window whose levels are not above the width. How level cells are ordered does not matter here.
+-- Numbers and orders of a width determine each other, over any width, and so do the numbers and the orders of windows. How level cells are ordered
+-- does not matter here.
 -- Assumes nothing.
-use Prim.Native.Nat.{ℕ, zero, suc, _-_, _≤_, _<_}
+use Prim.Native.Nat.{ℕ, zero, suc, _-_, _*_, _/_, _≤_, _<_}
 use mathlib.Core.Path.{_≡_, refl, sym, ap, ap₂, _∙_}
 use mathlib.Core.Bool.{true}
 use mathlib.Core.Logic.{_↔_}
-use mathlib.Core.List.{List}
-use native.Mathlib.Nat.{mod-eq-of-lt}
+use mathlib.Core.List.{List, [], _∷_}
+use native.Mathlib.Nat.{mod-eq-of-lt, div-self, zero-mul}
 use native.Mathlib.Omega.{arith}
 use lib.ListN.{length, getD}
 use borrow.Author.Tests.{le-leb}
-use Rattle.order.specs.Cells.{tabulate}
-use Rattle.order.proofs.Cells.{IsOrder, true-order, order-range}
+use Rattle.order.specs.Cells.{tabulate, isOrder}
+use Rattle.order.proofs.Cells.{IsOrder, order-true, true-order, order-range}
 use Rattle.order.proofs.Places.{own-place}
 use Rattle.order.proofs.Tabulate.{length-tabulate, getD-tabulate}
 use Rattle.coordinates.specs.Coordinates.{coordinateOf, orderFrom}
@@ -21,56 +21,87 @@ use Rattle.group.specs.Record.{allAtMost}
 use Rattle.writing.specs.PushUp.{singles, Shows}
 use Rattle.writing.proofs.Orders.{Falling, falling-shows}
 use Rattle.sensing.specs.Sense.{sensed}
-use Rattle.sensing.proofs.Sensed.{sensed-is-order, sensed-back}
-use Rattle.window.specs.Ring.{factorial, sumTo, windowNumber}
+use Rattle.sensing.proofs.Sensed.{sensed-order, sensed-back}
+use Rattle.window.specs.Ring.{factorial, factorialSum, orderNumber, windowNumber, windowAt, windowNumbers}
 use Rattle.window.proofs.Factorials.{sum-below}
-use Rattle.window.proofs.Summing.{coordinateIn, coordinate-low}
-use Rattle.window_laws.specs.Numbered.{digit, levelsAlong, levelsNumbered}
+use Rattle.window.proofs.Summing.{order-digits}
+use Rattle.window.proofs.Numbering.{window-length, window-ring}
+use Rattle.window_laws.specs.Numbered.{digit, orderNumbered, levelsAlong}
 use Rattle.window_laws.proofs.Digits.{sum-ext, sum-digits, digit-low, sum-of-digits}
 
--- ---- the number of a list of levels
+-- ---- orders
 
--- the order of a window's cells
-abbrev pub orderIn : List ℕ → List ℕ
-orderIn ls = sensed (length ls) ls
+below : (n : ℕ) (xs : List ℕ) → IsOrder n xs → orderNumber n xs < factorial n
+unfolding orderNumber factorialSum factorial
+below zero xs o = omega arith
+below (suc m) xs o =
+    let e : suc m - 1 ≡ m = omega arith in
+    rw e (sum-below (coordinateOf xs) m (order-digits (suc m) xs o m (omega arith)))
 
-numbered-below : (ls : List ℕ) (n : ℕ) → length ls ≡ n → sumTo (coordinateIn ls) (n - 1) < factorial n
-unfolding sumTo factorial
-numbered-below ls zero e = omega arith
-numbered-below ls (suc m) e =
-    let f : suc m - 1 ≡ m = omega arith in
-    rw f (sum-below (coordinateIn ls) m (coordinate-low ls m (omega arith)))
+-- the digits of an order's number are its coordinates
+same-digit : (n : ℕ) (xs : List ℕ) → IsOrder n xs → (i : ℕ) → i < n → digit (orderNumber n xs) i ≡ coordinateOf xs i
+unfolding orderNumber
+same-digit zero xs o i l = absurd (omega arith)
+same-digit (suc m) xs o zero l =
+    omega (arith, digit-low (orderNumber (suc m) xs) 0 0 (omega arith), order-digits (suc m) xs o 0 (omega arith) 0 (omega arith))
+same-digit (suc m) xs o (suc i) l =
+    let k = orderNumber (suc m) xs in
+    let e : suc m - 1 ≡ m = omega arith in
+    let sum : factorialSum (digit k) m ≡ factorialSum (coordinateOf xs) m = sum-of-digits k m ∙ mod-eq-of-lt (below (suc m) xs o) ∙ ap (factorialSum (coordinateOf xs)) e in
+    sum-digits (digit k) (coordinateOf xs) m (digit-low k m) (order-digits (suc m) xs o m (omega arith)) sum (suc i) (omega arith) (omega arith)
 
-pub number-below : (ls : List ℕ) → windowNumber ls < factorial (length ls)
+back : (n : ℕ) (xs : List ℕ) → IsOrder n xs → orderNumbered n (orderNumber n xs) ≡ xs
+unfolding orderNumbered
+back n xs o = order-ext n (digit (orderNumber n xs)) (coordinateOf xs) (same-digit n xs o) ∙ order-back n xs o
+
+numbered : (n k : ℕ) → k < factorial n → orderNumber n (orderNumbered n k) ≡ k
+unfolding orderNumber orderNumbered factorialSum factorial
+numbered zero k l = omega arith
+numbered (suc m) k l =
+    let e : suc m - 1 ≡ m = omega arith in
+    let low : (i : ℕ) → i < suc m → digit k i ≤ i = λ i h. digit-low k m i (omega arith) in
+    rw e
+    (sum-ext (coordinateOf (orderFrom (digit k) (suc m))) (digit k) m (λ i p h. coordinate-back (digit k) (suc m) low i (omega arith))
+    ∙ sum-of-digits k m ∙ mod-eq-of-lt l)
+
+numbered-is : (n k : ℕ) → IsOrder n (orderNumbered n k)
+unfolding orderNumbered
+numbered-is n k = order-is (digit k) n
+
+-- an order's number is below the factorial and gives the order back; every such number is that of an order, which gives it back
+pub orders-numbered : (n : ℕ)
+    → ((xs : List ℕ) → isOrder n xs ≡ true → (orderNumber n xs < factorial n) × (orderNumbered n (orderNumber n xs) ≡ xs))
+    × ((k : ℕ) → k < factorial n → (isOrder n (orderNumbered n k) ≡ true) × (orderNumber n (orderNumbered n k) ≡ k))
+orders-numbered n = (
+  (λ xs o. let t = order-true n xs o in (below n xs t, back n xs t)),
+  (λ k l. (true-order n (orderNumbered n k) (numbered-is n k), numbered n k l)),
+)
+
+-- ---- windows
+
+module _ (ls : List ℕ) where
+  pub number-below : windowNumber ls < factorial (length ls)
+  unfolding windowNumber
+  number-below = orders-numbered (length ls) .0 (sensed (length ls) ls) (sensed-order (length ls) ls) .0
+
+  -- the order in which a reading finds a window's cells is the one that has the window's number
+  pub number-order : orderNumbered (length ls) (windowNumber ls) ≡ sensed (length ls) ls
+  unfolding windowNumber
+  number-order = orders-numbered (length ls) .0 (sensed (length ls) ls) (sensed-order (length ls) ls) .1
+
+pub number-by-order : (ls ms : List ℕ) → length ls ≡ length ms → (windowNumber ls ≡ windowNumber ms) ↔ (sensed (length ls) ls ≡ sensed (length ms) ms)
 unfolding windowNumber
-number-below ls = numbered-below ls (length ls) refl
+number-by-order ls ms l =
+    ((λ e. sym (number-order ls) ∙ ap₂ orderNumbered l e ∙ number-order ms), (λ e. ap₂ orderNumber l e))
 
--- ---- the number and the order
+-- along a ring
+pub numbers-below : (ring : List ℕ) (width step k : ℕ) → k < length ring / step → getD (windowNumbers ring width step) k 0 < factorial width
+unfolding windowNumbers
+numbers-below ring width step k l =
+    let e = getD-tabulate {A = ℕ} (length ring / step) (λ j. windowNumber (windowAt ring width (j * step))) k 0 l in
+    rw e (rw (window-length ring width (k * step)) at (number-below (windowAt ring width (k * step))))
 
-module _ (ls ms : List ℕ) (l : length ls ≡ length ms) where
-  order-number : sensed (length ls) ls ≡ sensed (length ms) ms → windowNumber ls ≡ windowNumber ms
-  unfolding windowNumber
-  order-number e = ap₂ (λ (xs : List ℕ) (n : ℕ). sumTo (coordinateOf xs) (n - 1)) e l
-
-  same-coordinate : windowNumber ls ≡ windowNumber ms → (i : ℕ) → i < length ls → coordinateIn ls i ≡ coordinateIn ms i
-  unfolding windowNumber
-  same-coordinate e zero h = omega (arith, coordinate-low ls 0 (omega arith) 0 (omega arith), coordinate-low ms 0 (omega arith) 0 (omega arith))
-  same-coordinate e (suc i) h =
-      let m = length ls - 1 in
-      let f : sumTo (coordinateIn ls) m ≡ sumTo (coordinateIn ms) m = e ∙ ap (λ (n : ℕ). sumTo (coordinateIn ms) (n - 1)) (sym l) in
-      sum-digits (coordinateIn ls) (coordinateIn ms) m (coordinate-low ls m (omega arith)) (coordinate-low ms m (omega arith)) f (suc i) (omega arith) (omega arith)
-
-  number-order : windowNumber ls ≡ windowNumber ms → sensed (length ls) ls ≡ sensed (length ms) ms
-  number-order e =
-      sym (order-back (length ls) (orderIn ls) (sensed-is-order (length ls) ls))
-      ∙ order-ext (length ls) (coordinateIn ls) (coordinateIn ms) (same-coordinate e)
-      ∙ ap (orderFrom (coordinateIn ms)) l
-      ∙ order-back (length ms) (orderIn ms) (sensed-is-order (length ms) ms)
-
-  pub number-by-order : (windowNumber ls ≡ windowNumber ms) ↔ (sensed (length ls) ls ≡ sensed (length ms) ms)
-  number-by-order = (number-order, order-number)
-
--- ---- every number
+-- ---- every order, and so every number
 
 module _ (n : ℕ) (xs : List ℕ) (o : IsOrder n xs) where
   along-at : (k : ℕ) → k < n → level (levelsAlong n xs) (getD xs k 0) ≡ n - suc k
@@ -92,32 +123,31 @@ unfolding allAtMost
 all-tabulate m zero f h = refl
 all-tabulate m (suc n) f h = rw (le-leb (f 0) m (h 0)) (all-tabulate m n (λ k. f (suc k)) (λ k. h (suc k)))
 
-numbered : (n k : ℕ) → k < factorial n → sumTo (coordinateOf (orderFrom (digit k) n)) (n - 1) ≡ k
-unfolding sumTo factorial
-numbered zero k l = omega arith
-numbered (suc m) k l =
-    let e : suc m - 1 ≡ m = omega arith in
-    let low : (i : ℕ) → i < suc m → digit k i ≤ i = λ i h. digit-low k m i (omega arith) in
-    rw e
-    (sum-ext (coordinateOf (orderFrom (digit k) (suc m))) (digit k) m (λ i p h. coordinate-back (digit k) (suc m) low i (omega arith))
-    ∙ sum-of-digits k m ∙ mod-eq-of-lt l)
-
-module _ (n k : ℕ) where
-  pub levels-length : length (levelsNumbered n k) ≡ n
-  unfolding levelsNumbered levelsAlong
+module _ (n : ℕ) (xs : List ℕ) where
+  pub levels-length : length (levelsAlong n xs) ≡ n
+  unfolding levelsAlong
   levels-length = length-tabulate n _
 
-  pub levels-low : allAtMost n (levelsNumbered n k) ≡ true
-  unfolding levelsNumbered levelsAlong
+  pub levels-low : allAtMost n (levelsAlong n xs) ≡ true
+  unfolding levelsAlong
   levels-low = all-tabulate n n _ (λ c. omega arith)
 
-  levels-order : sensed n (levelsNumbered n k) ≡ orderFrom (digit k) n
-  unfolding levelsNumbered
-  levels-order =
-      let xs = orderFrom (digit k) n in
-      let o = order-is (digit k) n in
-      sensed-back n xs (levelsAlong n xs) (true-order n xs o) (along-shows n xs o)
+  pub order-had : isOrder n xs ≡ true → sensed n (levelsAlong n xs) ≡ xs
+  order-had o = sensed-back n xs (levelsAlong n xs) o (along-shows n xs (order-true n xs o))
 
-  pub number-had : k < factorial n → windowNumber (levelsNumbered n k) ≡ k
+module _ (n k : ℕ) (l : k < factorial n) where
+  pub number-had : windowNumber (levelsAlong n (orderNumbered n k)) ≡ k
   unfolding windowNumber
-  number-had l = rw (levels-length, levels-order) (numbered n k l)
+  number-had =
+      let t = orders-numbered n .1 k l in
+      rw (levels-length n (orderNumbered n k), order-had n (orderNumbered n k) (t .0)) (t .1)
+
+  -- by the one window of a ring of n cells
+  pub number-found : 1 ≤ n → windowNumbers (levelsAlong n (orderNumbered n k)) n n ≡ k ∷ []
+  unfolding windowNumbers
+  number-found p =
+      let ls = levelsAlong n (orderNumbered n k) in
+      let e = levels-length n (orderNumbered n k) in
+      let one : length ls / n ≡ 1 = ap (λ (m : ℕ). m / n) e ∙ div-self p in
+      let whole : windowAt ls n (0 * n) ≡ ls = ap₂ (windowAt ls) (sym e) (zero-mul n) ∙ window-ring ls in
+      ap (λ (m : ℕ). tabulate m (λ j. windowNumber (windowAt ls n (j * n)))) one ∙ ap (λ (j : ℕ). j ∷ []) (ap windowNumber whole ∙ number-had)

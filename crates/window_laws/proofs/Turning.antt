@@ -77,25 +77,25 @@ module _ (ring : List ℕ) (width step : ℕ) (forward : 1 ≤ step) (inside : s
   count : ℕ
   count = length ring / step
 
-  whole : count * step ≡ length ring
-  unfolding count
-  whole = omega (arith, div-add-mod' (length ring) step, divides)
+  -- the windows go once round the ring
+  pub once-round : length ring / step * step ≡ length ring
+  once-round = omega (arith, div-add-mod' (length ring) step, divides)
 
   -- the number of the window k steps on
   numberAt : ℕ → ℕ
   numberAt k = windowNumber (windowAt ring width (k * step))
 
   number-round : (i : ℕ) → numberAt (count + i) ≡ numberAt i
-  unfolding numberAt
+  unfolding numberAt count
   number-round i =
-      let e : (count + i) * step ≡ length ring + i * step = omega (arith, add-mul count i step, whole) in
+      let e : (count + i) * step ≡ length ring + i * step = omega (arith, add-mul count i step, once-round) in
       ap (λ (p : ℕ). windowNumber (windowAt ring width p)) e ∙ ap windowNumber (window-round ring width (i * step))
 
   pub numbers-turned : (k : ℕ) → k ≤ length ring / step → windowNumbers (turned (k * step) ring) width step ≡ turned k (windowNumbers ring width step)
   unfolding windowNumbers numberAt count
   numbers-turned k l =
       let s = k * step in
-      let h : s ≤ length ring = omega (arith, mul-le-mul-right step l, whole) in
+      let h : s ≤ length ring = omega (arith, mul-le-mul-right step l, once-round) in
       let later : (i : ℕ) → windowAt (turned s ring) width (i * step) ≡ windowAt ring width ((k + i) * step)
       = λ i. turned-window ring s h (omega arith) width (i * step) ∙ ap (windowAt ring width) (sym (add-mul k i step)) in
       ap (λ (t : ℕ). tabulate (t / step) (λ i. windowNumber (windowAt (turned s ring) width (i * step)))) (turned-length ring s h)

@@ -10,14 +10,14 @@ use Rattle.order.specs.Refusals.{outcomeNumber, numberOf}
 use Rattle.order.proofs.Refusals.{accepted}
 use Rattle.cell_run.specs.Run.{runChecks}
 use Rattle.cell_run.proofs.Checks.{checked-length}
-use Rattle.window.proofs.Answers.{held-refuse, held-passed}
+use Rattle.window.proofs.Answers.{run-refused, run-passed}
 use Rattle.window.proofs.windows.Statement.{statement}
 use Rattle.window.proofs.windows.Tie as tie
 
 returns : tie.Need-returns
 returns c =
     let known = c .before .checked .given in
-    held-refuse _ _ _ _ _ _ (known .0 .0) (sym (c .before .before .before .check .ensures) ∙ ap outcomeNumber (known .1))
+    run-refused _ _ _ _ _ _ (known .0 .0) (sym (c .before .before .before .check .ensures) ∙ ap outcomeNumber (known .1))
 
 -- the record has passed
 passed : (c : tie.After-enum-told) → numberOf (runChecks (c .before .before .before .before .before .args .run)) ≡ 0
@@ -43,7 +43,7 @@ slice-aggregate-along c =
 returns-2 : tie.Need-returns-2
 returns-2 c =
     let n = c .before .before .before .before in
-    held-passed _ _ _ _ _ _ (passed (n .before .before .before .before .before)) (n .along .ensures)
+    run-passed _ _ _ _ _ _ (passed (n .before .before .before .before .before)) (n .along .ensures)
 
 pub windows-spec : {M : Type 1} → statement M
 windows-spec =
