@@ -8,6 +8,7 @@ mod report;
 mod same;
 mod sample;
 mod tally;
+mod windows;
 mod words;
 
 use report::Report;
@@ -83,5 +84,16 @@ fn main() {
     r = each(r, Part::Alike, 3, 12);
     r = each(r, Part::CallLists, 3, 12);
     r = each(r, Part::LentLists, 3, 12);
+    // 141 lengths and 5 huge ones: 126 are opened, all else refused 13.
+    r = part(r, b"opened runs, ", 146, windows::opens());
+    // 32 runs and as many forged ones, 256 cells, 7 levels: 0, 3, 13, 14.
+    r = part(r, b"raises, runs ", 64, windows::raises());
+    // 32 runs, 15 widths, 14 steps, 3 lengths of each of the two lists, 2 comparisons each. Where width and step fit, 4 of 9 are done and 5
+    // refused 15, all else 13; few of the forged runs have any that fit.
+    r = part(r, b"windows, levels ", 4, windows::along(0, 4));
+    r = part(r, b"windows, levels ", 4096, windows::along(0, 4096));
+    r = part(r, b"windows, forged runs ", 32, windows::along(32, 4096));
+    // Lists of 0 to 130 levels, 15 widths, 14 steps: 0, 13.
+    r = part(r, b"windows, lists of levels to ", 130, windows::slices());
     report::total(r);
 }

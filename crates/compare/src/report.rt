@@ -43,9 +43,9 @@ fn with_number(l: Line, bytes: &[u8], x: u64) -> Line {
 }
 
 // How many answers had each number, where there are any.
-fn with_given(l: Line, given: [u64; 13]) -> Line {
+fn with_given(l: Line, given: [u64; 16]) -> Line {
     let mut next = with_number(l, b"; 0: ", given[0]);
-    for k in 1..13 {
+    for k in 1..16 {
         if given[k] != 0 {
             next = with_number(with_number(next, b", ", k as u64), b": ", given[k]);
         }

@@ -1,4 +1,4 @@
-// Widths, and reads and stores at any index, so that no caller has a bound to show. Sums wrap by name; none of document 01's comes near.
+// Widths, and reads and stores at any index, so that no caller has a bound to show. Sums wrap by name; none of the documents' comes near.
 
 pub fn wide(x: u8) -> usize {
     x as usize
@@ -8,7 +8,7 @@ pub fn wide32(x: u8) -> u32 {
     x as u32
 }
 
-fn wide16(x: u16) -> u32 {
+pub fn wide16(x: u16) -> u32 {
     x as u32
 }
 
@@ -32,6 +32,17 @@ pub fn add(x: usize, y: usize) -> usize {
 
 pub fn product(x: u8, y: u8) -> usize {
     (x as usize) * (y as usize)
+}
+
+// A product, 4,294,967,295 where it does not fit.
+pub fn times(x: u32, y: u8) -> u32 {
+    let z = (x as u64) * (y as u64);
+    if z < 4294967296 { z as u32 } else { 4294967295 }
+}
+
+// What x leaves when it is divided by m, 0 where m is 0.
+pub fn remainder(x: usize, m: usize) -> usize {
+    if m == 0 { 0 } else { x % m }
 }
 
 // The number at an index, 0 where there is none.
