@@ -1,21 +1,21 @@
 -- How the answer to a call for windows, and the two lent lists after it, follow from the checks.
 -- Assumes nothing.
-use Prim.Native.Nat.{ℕ, _/_, _%_, _≤_, _<_}
-use mathlib.Core.Path.{_≡_, sym, _∙_}
-use mathlib.Core.Bool.{Bool, true, false, _&&_}
+use Prim.Native.Nat.{ℕ, _/_, _%_, _≤_}
+use mathlib.Core.Path.{_≡_, sym, ap, _∙_}
+use mathlib.Core.Bool.{Bool, true, _&&_}
 use mathlib.Core.List.{List, []}
 use native.Mathlib.Omega.{arith}
 use lib.Dec.{leb, eqb}
 use lib.ListN.{length}
-use borrow.Author.Tests.{leb-true, le-leb, lt-leb}
+use borrow.Author.Tests.{leb-true}
 use Rattle.order.specs.declared.Refusal.{Refusal}
 use Rattle.order.specs.declared.Refusal.the-variants.{RunLimit, RoomShort}
 use Rattle.order.specs.Refusals.{Told, refusalNumber, numberOf, ifDone, answer, isSize}
 use Rattle.order.proofs.Cells.{both}
-use Rattle.order.proofs.Refusals.{told-done, told-refused, refused-zeros, refused-first, later-decide, check-fails, check-holds, all-hold, size-true}
+use Rattle.order.proofs.Refusals.{told-done, told-refused, refused-zeros, refused-first, later-decide, check-held, size-true}
 use Rattle.window.specs.Ring.{windowNumbers}
-use Rattle.window.specs.Calls.{scratchLevels, hasRoom, isWidth, isStep, windowChecks, putFirst, windowsOf, numbersAfter, scratchAfter}
-use Rattle.window.specs.Steps.{Numberable}
+use Rattle.window.specs.Calls.{scratchLevels, isWidth, isStep, windowChecks, putFirst, windowsOf, numbersAfter, scratchAfter}
+use Rattle.window.specs.Steps.{callChecks, Numberable}
 use Rattle.window.proofs.Numbering.{numbers-length}
 
 refused-keeps : (f : Refusal) {k : ℕ} (new old : List ℕ) → k ≡ refusalNumber f → old ≡ ifDone k new old
@@ -45,50 +45,43 @@ module _ (ofRun : List (Bool × Refusal)) (ls : List ℕ) (width step : ℕ) (nu
   unfolding windowsOf numbersAfter scratchAfter answer
   run-passed d t = let e = later-decide (windowChecks [] ls width step numbers scratch) ofRun d in (rw e (t .0), (rw e (t .1 .0), rw e (t .1 .1)))
 
+-- a step that passes is at least 1
+pub step-forward : (n width step : ℕ) → isStep n width step ≡ true → 1 ≤ step
+step-forward n width step s = leb-true 1 step (both (leb 1 step) (leb step width) (both (leb 1 step && leb step width) (eqb (n % step) 0) s .0) .0)
+
 module _ (ls : List ℕ) (width step : ℕ) (numbers scratch : List ℕ) where
-  pub width-refused : isWidth (length ls) width ≡ false → Answered [] ls width step numbers scratch (record { number = 13; value = 0 }) numbers scratch
-  width-refused e = refused-by [] ls width step numbers scratch RunLimit (check-fails _ _ e)
+  -- the checks by their numbers are those of the call
+  by-numbers : callChecks (length ls) width step (length numbers) (length scratch) ≡ windowChecks [] ls width step numbers scratch
+  unfolding scratchLevels
+  by-numbers = rw (numbers-length ls width step)
 
-  module _ (w : isWidth (length ls) width ≡ true) where
-    pub step-refused : isStep (length ls) width step ≡ false → Answered [] ls width step numbers scratch (record { number = 13; value = 0 }) numbers scratch
-    step-refused e = refused-by [] ls width step numbers scratch RunLimit (check-holds _ _ w ∙ check-fails _ _ e)
+  pub call-refused : (f : Refusal) → numberOf (callChecks (length ls) width step (length numbers) (length scratch)) ≡ refusalNumber f
+      → Answered [] ls width step numbers scratch (record { number = refusalNumber f; value = 0 }) numbers scratch
+  call-refused f e = refused-by [] ls width step numbers scratch f (ap numberOf (sym by-numbers) ∙ e)
 
-    module _ (s : isStep (length ls) width step ≡ true) where
-      pub step-forward : 1 ≤ step
-      step-forward = leb-true 1 step (both (leb 1 step) (leb step width) (both (leb 1 step && leb step width) (eqb (length ls % step) 0) s .0) .0)
+  module _ (d : numberOf (callChecks (length ls) width step (length numbers) (length scratch)) ≡ 0) where
+    pub numberable : Numberable ls width step numbers scratch
+    numberable =
+        let w = check-held (isWidth (length ls) width) RunLimit _ d in
+        let s = check-held (isStep (length ls) width step) RunLimit _ (w .1) in
+        let c = check-held (leb (length ls / step) (length numbers)) RoomShort _ (s .1) in
+        let r = check-held (leb (length ls) (length scratch)) RoomShort [] (c .1) in
+        let t = both (isSize width) (leb width (length ls)) (w .0) in
+        let size = size-true width (t .0) in
+        let inside = leb-true width (length ls) (t .1) in
+        record {
+          first = omega (arith, size .0, inside);
+          wide = size .1;
+          inside = inside;
+          forward = step-forward (length ls) width step (s .0);
+          count = leb-true (length ls / step) (length numbers) (c .0);
+          room = leb-true (length ls) (length scratch) (r .0);
+        }
 
-      -- the list of numbers is too short
-      pub numbers-short : length numbers < length ls / step → Answered [] ls width step numbers scratch (record { number = 15; value = 0 }) numbers scratch
-      numbers-short l =
-          refused-by [] ls width step numbers scratch RoomShort
-          (check-holds _ _ w ∙ check-holds _ _ s
-          ∙ check-fails _ _ (lt-leb (length (windowNumbers ls width step)) (length numbers) (rw (numbers-length ls width step) l)))
-
-      module _ (l : length ls / step ≤ length numbers) where
-        numbers-fit : hasRoom (windowNumbers ls width step) numbers ≡ true
-        numbers-fit = le-leb (length (windowNumbers ls width step)) (length numbers) (rw (numbers-length ls width step) l)
-
-        -- the scratch is too short
-        pub scratch-short : length scratch < length ls → Answered [] ls width step numbers scratch (record { number = 15; value = 0 }) numbers scratch
-        unfolding scratchLevels
-        scratch-short h =
-            refused-by [] ls width step numbers scratch RoomShort
-            (check-holds _ _ w ∙ check-holds _ _ s ∙ check-holds _ _ numbers-fit ∙ check-fails _ _ (lt-leb (length ls) (length scratch) h))
-
-        module _ (h : length ls ≤ length scratch) where
-          pub numberable : Numberable ls width step numbers scratch
-          numberable =
-              let t = both (isSize width) (leb width (length ls)) w in
-              let size = size-true width (t .0) in
-              let inside = leb-true width (length ls) (t .1) in
-              record { first = omega (arith, size .0, inside); wide = size .1; inside = inside; forward = step-forward; count = l; room = h }
-
-          all-pass : numberOf (windowChecks [] ls width step numbers scratch) ≡ 0
-          unfolding scratchLevels
-          all-pass = check-holds _ _ w ∙ check-holds _ _ s ∙ check-holds _ _ numbers-fit ∙ check-holds _ _ (le-leb (length ls) (length scratch) h) ∙ all-hold
-
-          -- the windows are numbered
-          pub filled : {ns ss : List ℕ} → ns ≡ putFirst (windowNumbers ls width step) numbers → ss ≡ putFirst ls scratch
-              → Answered [] ls width step numbers scratch (record { number = 0; value = length ls / step }) ns ss
-          unfolding windowsOf numbersAfter scratchAfter scratchLevels
-          filled {ns} {ss} e f = (rw (← numbers-length ls width step) (told-done _ _ _ all-pass), (rw (e, all-pass), rw (f, all-pass)))
+    -- the windows are numbered
+    pub filled : {ns ss : List ℕ} → ns ≡ putFirst (windowNumbers ls width step) numbers → ss ≡ putFirst ls scratch
+        → Answered [] ls width step numbers scratch (record { number = 0; value = length ls / step }) ns ss
+    unfolding windowsOf numbersAfter scratchAfter scratchLevels
+    filled {ns} {ss} e f =
+        let pass : numberOf (windowChecks [] ls width step numbers scratch) ≡ 0 = ap numberOf (sym by-numbers) ∙ d in
+        (rw (← numbers-length ls width step) (told-done _ _ _ pass), (rw (e, pass), rw (f, pass)))

@@ -1,9 +1,19 @@
--- What a private contract asks. No public contract rests on this.
+-- What private contracts say and ask. No public contract rests on this.
 --
+--   callChecks    the checks of width, step and lists by their numbers: of the ring's cells, and of the lists' places
 --   Numberable    what numbering the windows needs of a ring, a width, a step and the two lists
 use Prim.Native.Nat.{ℕ, _/_, _≤_}
-use mathlib.Core.List.{List}
+use mathlib.Core.Bool.{Bool}
+use mathlib.Core.List.{List, [], _∷_}
+use lib.Dec.{leb}
 use lib.ListN.{length}
+use Rattle.order.specs.declared.Refusal.{Refusal}
+use Rattle.order.specs.declared.Refusal.the-variants.{RunLimit, RoomShort}
+use Rattle.window.specs.Calls.{isWidth, isStep}
+
+abbrev pub callChecks : ℕ → ℕ → ℕ → ℕ → ℕ → List (Bool × Refusal)
+callChecks n width step numbers scratch =
+    (isWidth n width, RunLimit) ∷ (isStep n width step, RunLimit) ∷ (leb (n / step) numbers, RoomShort) ∷ (leb n scratch, RoomShort) ∷ []
 
 pub record Numberable (ring : List ℕ) (width step : ℕ) (numbers scratch : List ℕ) : Type 0 where
   pub first : 1 ≤ length ring

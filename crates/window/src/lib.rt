@@ -14,7 +14,7 @@ ghost use Rattle.sensing.specs.Sense.{sensed};
 ghost use Rattle.cell_run.specs.Run.{runChecks};
 ghost use Rattle.window.specs.Ring.{windowNumber, windowAt, windowNumbers};
 ghost use Rattle.window.specs.Calls.{ring, levelChecks, isWidth, isStep, putFirst, toldWindows, windowsOf, numbersAfter, scratchAfter};
-ghost use Rattle.window.specs.Steps.{Numberable};
+ghost use Rattle.window.specs.Steps.{callChecks, Numberable};
 
 const MAX_LEVEL: u16 = 4095;
 
@@ -67,7 +67,7 @@ pub fn windows_of(
     along(levels, width, step, numbers, scratch)
 }
 
-// The answer for a ring of any levels: the checks of width, step and lists.
+// The answer for a ring of any levels.
 fn along(
     ring: &[u16],
     width: usize,
@@ -79,22 +79,31 @@ fn along(
     ensures { λ r. ⌜ now (numbers .exit) ≡ numbersAfter [] (now (ring .entry)) width step (now (numbers .entry)) (now (scratch .entry)) ⌝ }
     ensures { λ r. ⌜ now (scratch .exit) ≡ scratchAfter [] (now (ring .entry)) width step (now (numbers .entry)) (now (scratch .entry)) ⌝ }
 {
-    let len = ring.len();
-    if !is_width(len, width) {
-        return WindowsAnswer::Refused(Refusal::RunLimit);
-    }
-    if !is_step(len, width, step) {
-        return WindowsAnswer::Refused(Refusal::RunLimit);
-    }
-    let count = len / step;
-    if numbers.len() < count {
-        return WindowsAnswer::Refused(Refusal::RoomShort);
-    }
-    if scratch.len() < len {
-        return WindowsAnswer::Refused(Refusal::RoomShort);
+    let checked = check_call(ring.len(), width, step, numbers.len(), scratch.len());
+    if let Outcome::Refused(refusal) = checked {
+        return WindowsAnswer::Refused(refusal);
     }
     number_windows(ring, width, step, numbers, scratch);
-    WindowsAnswer::Filled(count)
+    WindowsAnswer::Filled(ring.len() / step)
+}
+
+// The outcome for a width and a step on a ring of n cells, and for lists of so many places.
+fn check_call(n: usize, width: usize, step: usize, numbers: usize, scratch: usize) -> Outcome
+    ensures { λ r. ⌜ outcomeNumber r ≡ numberOf (callChecks n width step numbers scratch) ⌝ }
+{
+    if !is_width(n, width) {
+        return Outcome::Refused(Refusal::RunLimit);
+    }
+    if !is_step(n, width, step) {
+        return Outcome::Refused(Refusal::RunLimit);
+    }
+    if numbers < n / step {
+        return Outcome::Refused(Refusal::RoomShort);
+    }
+    if scratch < n {
+        return Outcome::Refused(Refusal::RoomShort);
+    }
+    Outcome::Done
 }
 
 // Whether a window of a run of n cells can be so wide.
