@@ -1,13 +1,13 @@
--- A run stays a run: an accepted open makes one, and a raise, accepted or refused, keeps it one.
+-- A run stays a run: an accepted open makes one, and a raise, accepted or refused, keeps it one. Its levels make one too.
 -- Assumes nothing.
 use Prim.Native.Nat.{ℕ, zero, suc, _-_, _≤_, _<_}
-use mathlib.Core.Path.{_≡_, refl, _∙_}
+use mathlib.Core.Path.{_≡_, refl, ap, _∙_}
 use mathlib.Core.Bool.{true}
 use mathlib.Core.List.{List, [], _∷_}
 use native.Mathlib.Omega.{arith}
 use lib.Dec.{leb}
-use lib.ListN.{length, set, drop, replicate, length-set}
-use lib.Seq.{drop-set-lt}
+use lib.ListN.{length, set, take, drop, replicate, length-set}
+use lib.Seq.{drop-set-lt, length-take-le}
 use borrow.Author.Tests.{leb-true, le-leb}
 use Rattle.order.specs.declared.Cell.{Cell}
 use Rattle.order.specs.declared.Refusal.the-variants.{NoCell, RunLimit, NoRaise}
@@ -21,8 +21,9 @@ use Rattle.group.proofs.Checks.{cell-true}
 use Rattle.group.proofs.Groups.{told-value, told-accepted}
 use Rattle.group.proofs.LevelRows.{zeros-row}
 use Rattle.cell_run.specs.declared.Run.{Run}
-use Rattle.cell_run.specs.Run.{isLength, runChecks, openedRun, noRun, isRaise, cellChecks, raiseChecks, raised, openRunOf, raiseCellOf}
-use Rattle.cell_run.proofs.Checks.{checked-row}
+use Rattle.cell_run.specs.Run.{isLength, runChecks, levelChecks, openedRun, noRun, isRaise, cellChecks, raiseChecks, raised, openRunOf, raiseCellOf}
+use Rattle.cell_run.proofs.Checks.{checked-length, checked-row}
+use Rattle.cell_run.proofs.Rows.{row-split}
 
 -- a record that passes the checks, with its 128 levels
 pub record IsRun (r : Run) : Type 0 where
@@ -62,3 +63,12 @@ raise-run r c v h =
     run-of (r .len) (set (r .levels) (c .0 - 1) v) (check-held (isLength (r .len)) RunLimit _ (h .passes) .0)
     (row-set 4095 (r .len) (r .levels) (c .0 - 1) v (omega (arith, cell)) high (checked-row r (h .passes)))
     (length-set (r .levels) (c .0 - 1) v ∙ h .levels)) h
+
+-- its levels, handed in as a list, pass too
+pub levels-pass : (r : Run) → IsRun r → numberOf (levelChecks (take (r .len) (r .levels))) ≡ 0
+levels-pass r h =
+    let ls = take (r .len) (r .levels) in
+    let size : length ls ≡ r .len = length-take-le (r .len) (r .levels) (omega (arith, checked-length r (h .passes), h .levels)) in
+    let long : isLength (length ls) ≡ true = ap isLength size ∙ check-held (isLength (r .len)) RunLimit _ (h .passes) .0 in
+    let row = row-split 4095 (r .len) (r .levels) ∙ checked-row r (h .passes) in
+    check-holds _ _ long ∙ check-holds _ _ (both (allAtMost 4095 ls) (allAtMost 0 (drop (r .len) (r .levels))) row .0) ∙ all-hold

@@ -3,6 +3,7 @@
 --   isLength n          a run has 3 to 128 cells
 --   runChecks r         the checks of a record: 13 for its length, for a level above 4,095 and for a place past its length that is not 0.
 --                       That it has 128 levels is in its type
+--   levelChecks ls      the checks of a run that is handed in as the list of its levels: 13 for its length and for a level above 4,095
 --   openedRun n         the record of n cells with every one of its levels 0
 --   noRun               the all-zero record
 --   toldRun a           what the answer to an open or a raise says: its number, and the run
@@ -16,14 +17,14 @@ use Prim.Native.Nat.{ℕ}
 use mathlib.Core.Bool.{Bool, _&&_}
 use mathlib.Core.List.{List, [], _∷_, _++_}
 use lib.Dec.{leb}
-use lib.ListN.{replicate}
+use lib.ListN.{length, replicate}
 use Rattle.order.specs.declared.Cell.{Cell}
 use Rattle.order.specs.declared.Refusal.{Refusal}
 use Rattle.order.specs.declared.Refusal.the-variants.{NoCell, RunLimit, NoRaise}
 use Rattle.order.specs.Refusals.{outcomeNumber, Told, answer}
 use Rattle.order.specs.Cells.{isCell}
 use Rattle.group.specs.Levels.{level, put}
-use Rattle.group.specs.Record.{isRow}
+use Rattle.group.specs.Record.{allAtMost, isRow}
 use Rattle.cell_run.specs.declared.Run.{Run}
 use Rattle.cell_run.specs.declared.RunAnswer.{RunAnswer}
 
@@ -32,6 +33,9 @@ isLength n = leb 3 n && leb n 128
 
 abbrev pub runChecks : Run → List (Bool × Refusal)
 runChecks r = (isLength (r .len), RunLimit) ∷ (isRow 4095 (r .len) (r .levels), RunLimit) ∷ []
+
+abbrev pub levelChecks : List ℕ → List (Bool × Refusal)
+levelChecks ls = (isLength (length ls), RunLimit) ∷ (allAtMost 4095 ls, RunLimit) ∷ []
 
 abbrev pub openedRun : ℕ → Run
 openedRun n = record { len = n; levels = replicate 128 0 }

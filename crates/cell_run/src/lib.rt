@@ -8,7 +8,7 @@ ghost use mathlib.Core.Path.{_≡_};
 ghost use mathlib.Core.Bool.{true};
 ghost use Rattle.order.specs.Refusals.{outcomeNumber, numberOf};
 ghost use Rattle.group.specs.Record.{allAtMost, isRow};
-ghost use Rattle.cell_run.specs.Run.{isLength, runChecks, openedRun, toldRun, openRunOf, cellChecks, isRaise, raiseCellOf};
+ghost use Rattle.cell_run.specs.Run.{isLength, runChecks, levelChecks, openedRun, toldRun, openRunOf, cellChecks, isRaise, raiseCellOf};
 
 const MAX_LEVEL: u16 = 4095;
 
@@ -37,8 +37,21 @@ pub fn check(run: Run) -> Outcome
     Outcome::Done
 }
 
+// The same for a run that is handed in as the list of its levels.
+pub fn check_levels(levels: &[u16]) -> Outcome
+    ensures { λ r. ⌜ outcomeNumber r ≡ numberOf (levelChecks (now (levels .entry))) ⌝ }
+{
+    if !is_length(levels.len()) {
+        return Outcome::Refused(Refusal::RunLimit);
+    }
+    if !all_at_most(levels, MAX_LEVEL) {
+        return Outcome::Refused(Refusal::RunLimit);
+    }
+    Outcome::Done
+}
+
 // Whether a run can have n cells.
-pub fn is_length(n: usize) -> bool
+fn is_length(n: usize) -> bool
     ensures { λ r. ⌜ r ≡ isLength n ⌝ }
 {
     if 3 <= n { n <= 128 } else { false }
@@ -59,7 +72,7 @@ fn has_row(run: Run) -> bool
 }
 
 // Whether no level is above the highest that is allowed: what is too high is gathered, and none is.
-pub fn all_at_most(levels: &[u16], highest: u16) -> bool
+fn all_at_most(levels: &[u16], highest: u16) -> bool
     ensures { λ r. ⌜ r ≡ allAtMost highest (now (levels .entry)) ⌝ }
 {
     let mut over: u16 = 0;

@@ -39,11 +39,20 @@ module _ (ofRun : List (Bool × Refusal)) (ls : List ℕ) (width step : ℕ) (nu
   run-refused f e = refused-by f (refused-first _ ofRun f e)
 
   -- it passes, and the later checks decide
-  pub run-passed : {a : Told ℕ} {ns ss : List ℕ} → numberOf ofRun ≡ 0
-      → (a ≡ windowsOf [] ls width step numbers scratch) × ((ns ≡ numbersAfter [] ls width step numbers scratch) × (ss ≡ scratchAfter [] ls width step numbers scratch))
-      → Answered a ns ss
-  unfolding windowsOf numbersAfter scratchAfter answer
-  run-passed d t = let e = later-decide (windowChecks [] ls width step numbers scratch) ofRun d in (rw e (t .0), (rw e (t .1 .0), rw e (t .1 .1)))
+  module _ (d : numberOf ofRun ≡ 0) where
+    same : numberOf (windowChecks ofRun ls width step numbers scratch) ≡ numberOf (windowChecks [] ls width step numbers scratch)
+    same = later-decide (windowChecks [] ls width step numbers scratch) ofRun d
+
+    pub run-passed : {a : Told ℕ} {ns ss : List ℕ}
+        → (a ≡ windowsOf [] ls width step numbers scratch) × ((ns ≡ numbersAfter [] ls width step numbers scratch) × (ss ≡ scratchAfter [] ls width step numbers scratch))
+        → Answered a ns ss
+    unfolding windowsOf numbersAfter scratchAfter answer
+    run-passed t = (rw same (t .0), (rw same (t .1 .0), rw same (t .1 .1)))
+
+    pub run-passing : {a : Told ℕ} {ns ss : List ℕ} → Answered a ns ss
+        → (a ≡ windowsOf [] ls width step numbers scratch) × ((ns ≡ numbersAfter [] ls width step numbers scratch) × (ss ≡ scratchAfter [] ls width step numbers scratch))
+    unfolding windowsOf numbersAfter scratchAfter answer
+    run-passing t = (rw same at (t .0), (rw same at (t .1 .0), rw same at (t .1 .1)))
 
 -- a step that passes is at least 1
 pub step-forward : (n width step : ℕ) → isStep n width step ≡ true → 1 ≤ step

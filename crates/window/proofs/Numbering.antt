@@ -1,18 +1,18 @@
 -- The loop over the windows: what the lists hold after each window.
 -- Assumes nothing.
-use Prim.Native.Nat.{ℕ, _+_, _-_, _*_, _/_, _%_, _≤_, _<_}
+use Prim.Native.Nat.{ℕ, _+_, _-_, _*_, _/_, _≤_, _<_}
 use mathlib.Core.Path.{_≡_, refl, sym, ap, _∙_}
 use mathlib.Core.List.{List, _++_}
-use native.Mathlib.Nat.{zero-add, suc-mul, zero-mul, mul-le-mul-right, div-mul-le-self, mod-eq-of-lt}
+use native.Mathlib.Nat.{suc-mul, zero-mul, mul-le-mul-right, div-mul-le-self, mod-eq-of-lt}
 use native.Mathlib.Numerals.{add-one}
 use native.Mathlib.Omega.{arith}
 use lib.ListN.{length, getD, set, take, drop, length-append, length-drop}
-use lib.Seq.{take-at, drop-at, drop-drop, ext-getD}
+use lib.Seq.{take-at, drop-at, drop-drop, ext-getD, getD-take, getD-drop, length-take-le, take-all}
 use Rattle.order.specs.Cells.{tabulate}
 use Rattle.order.proofs.Tabulate.{length-tabulate, getD-tabulate}
 use Rattle.window.specs.Ring.{windowNumber, windowAt, windowNumbers}
 use Rattle.window.specs.Calls.{putFirst}
-use Rattle.window.specs.Steps.{Numberable}
+use Rattle.window.specs.Steps.{Numberable, KeptPast}
 use Rattle.window.proofs.Placing.{grown, grown-none, grown-length, grown-more, grown-whole, levelOn}
 
 -- ---- windows
@@ -25,15 +25,23 @@ pub numbers-length : (ring : List ℕ) (width step : ℕ) → length (windowNumb
 unfolding windowNumbers
 numbers-length ring width step = length-tabulate (length ring / step) (λ k. windowNumber (windowAt ring width (k * step)))
 
+-- a window that does not go round the end
+pub window-inside : (ring : List ℕ) (width p : ℕ) → p + width ≤ length ring → windowAt ring width p ≡ take (p + width - p) (drop p ring)
+unfolding windowAt
+window-inside ring width p l =
+    let e : p + width - p ≡ width = omega arith in
+    let long : length (take width (drop p ring)) ≡ width = length-take-le width (drop p ring) (omega (arith, length-drop p ring)) in
+    rw e
+    (ext-getD 0 (windowAt ring width p) (take width (drop p ring)) (window-length ring width p ∙ sym long)
+    (λ i g.
+    let h : i < width = omega (arith, window-length ring width p) in
+    let f : p + i < length ring = omega arith in
+    getD-tabulate width (levelOn ring p) i 0 h ∙ ap (λ (k : ℕ). getD ring k 0) (mod-eq-of-lt f)
+    ∙ sym (getD-take width (drop p ring) i 0 h ∙ getD-drop p ring i 0)))
+
 -- the window that is the whole ring, from its first cell
 pub window-ring : (ring : List ℕ) → windowAt ring (length ring) 0 ≡ ring
-unfolding windowAt
-window-ring ring =
-    ext-getD 0 (windowAt ring (length ring) 0) ring (window-length ring (length ring) 0)
-    (λ i l.
-    let h : i < length ring = omega (arith, window-length ring (length ring) 0) in
-    getD-tabulate (length ring) (levelOn ring 0) i 0 h ∙ ap (λ (k : ℕ). getD ring (k % length ring) 0) (zero-add i)
-    ∙ ap (λ (k : ℕ). getD ring k 0) (mod-eq-of-lt h))
+window-ring ring = window-inside ring (length ring) 0 (omega arith) ∙ take-all (0 + length ring - 0) ring (omega arith)
 
 -- a list with a window first
 module _ (ring : List ℕ) (width p : ℕ) (old : List ℕ) {new : List ℕ} (e : new ≡ putFirst (windowAt ring width p) old) where
@@ -47,6 +55,9 @@ module _ (ring : List ℕ) (width p : ℕ) (old : List ℕ) {new : List ℕ} (e 
   placed-length l =
       let w = window-length ring width p in
       rw e (omega (arith, length-append (windowAt ring width p) (drop (length (windowAt ring width p)) old), length-drop (length (windowAt ring width p)) old, w))
+
+  pub placed-kept : width ≤ length old → KeptPast width old new
+  placed-kept l = record { later = placed-later; long = placed-length l }
 
 -- ---- the loop
 
@@ -78,17 +89,17 @@ module _ {ring : List ℕ} {width step : ℕ} {numbers₀ scratch₀ numbers scr
     pub start-inside : start + step ≤ length ring
     start-inside = omega (arith, s .at, suc-mul k step, mul-le-mul-right step l, div-mul-le-self (length ring) step)
 
-    pub next : {new : List ℕ} {number : ℕ} → new ≡ putFirst (windowAt ring width start) scratch → number ≡ windowNumber (take width new)
+    pub next : {new : List ℕ} {number : ℕ} → number ≡ windowNumber (windowAt ring width start) → KeptPast width scratch new
         → Numbering ring width step numbers₀ scratch₀ (set numbers k number) new (start + step) (k + 1)
-    next {new} {number} e f =
-        let here : number ≡ numberAt ring width step k = f ∙ ap windowNumber (placed-first ring width start scratch e ∙ ap (windowAt ring width) (s .at)) in
+    next {new} {number} f e =
+        let here : number ≡ numberAt ring width step k = f ∙ ap (λ (p : ℕ). windowNumber (windowAt ring width p)) (s .at) in
         record {
           needs = s .needs;
           turn = omega arith;
           list = rw (s .list, here) (grown-more (numberAt ring width step) k numbers₀ (omega (arith, s .needs .count)));
           at = rw (add-one k) (omega (arith, s .at, suc-mul k step));
-          kept = placed-later ring width start scratch e ∙ s .kept;
-          long = placed-length ring width start scratch e has-room ∙ s .long;
+          kept = e .later ∙ s .kept;
+          long = e .long ∙ s .long;
         }
 
   pub numbers-done : length ring / step ≤ k → numbers ≡ putFirst (windowNumbers ring width step) numbers₀
@@ -98,10 +109,14 @@ module _ {ring : List ℕ} {width step : ℕ} {numbers₀ scratch₀ numbers scr
       s .list ∙ grown-whole (numberAt ring width step) k numbers₀ ∙ ap (λ (n : ℕ). putFirst (tabulate n (numberAt ring width step)) numbers₀) e
 
   -- the whole ring put over the last window
-  pub scratch-done : {new : List ℕ} → new ≡ putFirst (windowAt ring (length ring) 0) scratch → new ≡ putFirst ring scratch₀
+  pub scratch-done : {new : List ℕ} → new ≡ putFirst ring scratch → new ≡ putFirst ring scratch₀
   scratch-done {new} e =
       let past : width + (length ring - width) ≡ length ring = omega (arith, s .needs .inside) in
       let later : drop (length ring) scratch ≡ drop (length ring) scratch₀ =
       ap (λ (n : ℕ). drop n scratch) (sym past) ∙ sym (drop-drop (length ring - width) width scratch) ∙ ap (drop (length ring - width)) (s .kept)
       ∙ drop-drop (length ring - width) width scratch₀ ∙ ap (λ (n : ℕ). drop n scratch₀) past in
-      e ∙ ap (λ (w : List ℕ). putFirst w scratch) (window-ring ring) ∙ ap (λ (t : List ℕ). ring ++ t) later
+      e ∙ ap (λ (t : List ℕ). ring ++ t) later
+
+  pub scratch-long : {new : List ℕ} → new ≡ putFirst ring scratch → length new ≡ length scratch₀
+  scratch-long {new} e =
+      rw e (omega (arith, length-append ring (drop (length ring) scratch), length-drop (length ring) scratch, s .long, s .needs .room))

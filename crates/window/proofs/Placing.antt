@@ -7,9 +7,9 @@ use native.Mathlib.Nat.{add-zero, add-assoc, mod-lt, mod-eq-of-lt, mod-add-mod}
 use native.Mathlib.Numerals.{add-one}
 use native.Mathlib.Omega.{arith}
 use lib.ListN.{length, getD, set, drop, length-append, length-drop}
-use lib.Seq.{drop-cons, set-at, append-snoc}
+use lib.Seq.{drop-cons, set-at, append-snoc, ext-getD}
 use Rattle.order.specs.Cells.{tabulate}
-use Rattle.order.proofs.Tabulate.{length-tabulate, tabulate-add}
+use Rattle.order.proofs.Tabulate.{length-tabulate, getD-tabulate, tabulate-add}
 use Rattle.window.specs.Ring.{windowAt}
 use Rattle.window.specs.Calls.{putFirst}
 
@@ -41,6 +41,18 @@ grown-more f k old l =
 pub grown-whole : (f : ℕ → ℕ) (k : ℕ) (old : List ℕ) → grown f k old ≡ putFirst (tabulate k f) old
 unfolding grown
 grown-whole f k old = rw (length-tabulate k f)
+
+-- ---- all levels, one after the other
+
+abbrev pub levelIn : List ℕ → ℕ → ℕ
+levelIn ring j = getD ring j 0
+
+pub levels-whole : (ring old : List ℕ) (j : ℕ) → j ≡ length ring → grown (levelIn ring) j old ≡ putFirst ring old
+levels-whole ring old j e =
+    let all : tabulate (length ring) (levelIn ring) ≡ ring =
+    ext-getD 0 (tabulate (length ring) (levelIn ring)) ring (length-tabulate (length ring) (levelIn ring))
+    (λ i l. getD-tabulate (length ring) (levelIn ring) i 0 (omega (arith, length-tabulate (length ring) (levelIn ring)))) in
+    rw e (grown-whole (levelIn ring) (length ring) old ∙ ap (λ (t : List ℕ). putFirst t old) all)
 
 -- ---- round the ring
 

@@ -6,8 +6,8 @@ use mathlib.Core.Bool.{true}
 use mathlib.Core.List.{List}
 use Rattle.order.specs.Refusals.{checkRow, inRow}
 use Rattle.cell_run.specs.declared.Run.{Run}
-use Rattle.cell_run.specs.Run.{runChecks}
-use Rattle.window.specs.Calls.{ring, levelChecks, windowChecks}
+use Rattle.cell_run.specs.Run.{runChecks, levelChecks}
+use Rattle.window.specs.Calls.{ring, windowChecks}
 
 module _ (width step : ℕ) (numbers scratch : List ℕ) where
   pub windows-in-row : (r : Run) → inRow (windowChecks (runChecks r) (ring r) width step numbers scratch) checkRow ≡ true

@@ -1,7 +1,6 @@
 -- Document 02, request (a): what a call for the numbers of a run's windows answers, and what it leaves in the lists that it is lent.
 --
 --   ring r               the levels of the run's cells, which stand in a ring
---   levelChecks ls       the checks of a run that is handed in as the list of its levels: 13 for its length and for a level above 4,095
 --   isWidth n w          a window of a run of n cells has 3 to 12 cells, not above n
 --   isStep n w s         a step is from 1 up to the width, and divides n
 --   scratchLevels ls     what stands first in the scratch after the call: the run's levels, whatever the width and the step
@@ -9,7 +8,7 @@
 --   toldWindows a        what the answer says: its number, and how many numbers were filled in
 --   putFirst new old     a lent list with new elements first, and the later places untouched
 --
--- Of a call: ofRun are the checks of the run as it is handed in, ls the levels of its ring, numbers and scratch the lists that are lent.
+-- Of a call: ofRun are the checks of the run as it is handed in (`runChecks`, `levelChecks` of cell_run), ls the levels of its ring, numbers and scratch the lists that are lent.
 --
 --   windowChecks         its checks: those of the run, then 13 for width and step, then 15
 --   windowsOf            its answer: 0 and how many numbers were filled in, else the refusal and 0
@@ -22,9 +21,7 @@ use lib.ListN.{length, take, drop}
 use Rattle.order.specs.declared.Refusal.{Refusal}
 use Rattle.order.specs.declared.Refusal.the-variants.{RunLimit, RoomShort}
 use Rattle.order.specs.Refusals.{refusalNumber, numberOf, ifDone, Told, answer, isSize}
-use Rattle.group.specs.Record.{allAtMost}
 use Rattle.cell_run.specs.declared.Run.{Run}
-use Rattle.cell_run.specs.Run.{isLength}
 use Rattle.window.specs.declared.WindowsAnswer.{WindowsAnswer}
 use Rattle.window.specs.declared.WindowsAnswer.the-variants.{Refused, Filled}
 use Rattle.window.specs.Ring.{windowNumbers}
@@ -33,9 +30,6 @@ use Rattle.window.specs.Ring.{windowNumbers}
 
 abbrev pub ring : Run → List ℕ
 ring r = take (r .len) (r .levels)
-
-abbrev pub levelChecks : List ℕ → List (Bool × Refusal)
-levelChecks ls = (isLength (length ls), RunLimit) ∷ (allAtMost 4095 ls, RunLimit) ∷ []
 
 abbrev pub isWidth : ℕ → ℕ → Bool
 isWidth n w = isSize w && leb w n

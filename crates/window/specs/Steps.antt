@@ -1,12 +1,14 @@
--- What private contracts say and ask. No public contract rests on this.
+-- What private contracts say, ask and promise. No public contract rests on this.
 --
 --   callChecks    the checks of width, step and lists by their numbers: of the ring's cells, and of the lists' places
 --   Numberable    what numbering the windows needs of a ring, a width, a step and the two lists
+--   KeptPast      a list that holds what it held from a place on, and is as long
 use Prim.Native.Nat.{ℕ, _/_, _≤_}
+use mathlib.Core.Path.{_≡_}
 use mathlib.Core.Bool.{Bool}
 use mathlib.Core.List.{List, [], _∷_}
 use lib.Dec.{leb}
-use lib.ListN.{length}
+use lib.ListN.{length, drop}
 use Rattle.order.specs.declared.Refusal.{Refusal}
 use Rattle.order.specs.declared.Refusal.the-variants.{RunLimit, RoomShort}
 use Rattle.window.specs.Calls.{isWidth, isStep}
@@ -22,3 +24,7 @@ pub record Numberable (ring : List ℕ) (width step : ℕ) (numbers scratch : Li
   pub forward : 1 ≤ step
   pub count : length ring / step ≤ length numbers
   pub room : length ring ≤ length scratch
+
+pub record KeptPast (width : ℕ) (old new : List ℕ) : Type 0 where
+  pub later : drop width new ≡ drop width old
+  pub long : length new ≡ length old

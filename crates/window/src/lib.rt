@@ -5,23 +5,26 @@ use cell_run::Run;
 use order::Outcome;
 use order::Refusal;
 ghost use mathlib.Core.Path.{_≡_};
-ghost use mathlib.Core.List.{[]};
 ghost use Prim.Native.Nat.{_+_, _%_, _≤_, _<_};
 ghost use lib.ListN.{length};
 ghost use Rattle.order.specs.Refusals.{outcomeNumber, numberOf};
 ghost use Rattle.coordinates.specs.Coordinates.{coordinateOf};
 ghost use Rattle.sensing.specs.Sense.{sensed};
-ghost use Rattle.cell_run.specs.Run.{runChecks};
+ghost use Rattle.cell_run.specs.Run.{runChecks, levelChecks};
 ghost use Rattle.window.specs.Ring.{windowNumber, windowAt, windowNumbers};
-ghost use Rattle.window.specs.Calls.{ring, levelChecks, isWidth, isStep, putFirst, toldWindows, windowsOf, numbersAfter, scratchAfter};
-ghost use Rattle.window.specs.Steps.{callChecks, Numberable};
-
-const MAX_LEVEL: u16 = 4095;
+ghost use Rattle.window.specs.Calls.{ring, isWidth, isStep, putFirst, toldWindows, windowsOf, numbersAfter, scratchAfter};
+ghost use Rattle.window.specs.Steps.{callChecks, Numberable, KeptPast};
 
 // How many windows were numbered, or why none was.
 pub enum WindowsAnswer {
     Refused(Refusal),
     Filled(usize),
+}
+
+// Coordinates i and i + 1 of a window.
+struct TwoCoordinates {
+    here: u32,
+    next: u32,
 }
 
 // The numbers of the windows that start with cells 1, 1 + step and so on, put first into a list; a scratch of at least as many levels as the
@@ -43,7 +46,7 @@ pub fn windows(
     }
     let len = run.len;
     let levels = run.levels;
-    along(&levels[..len], width, step, numbers, scratch)
+    windows_of(&levels[..len], width, step, numbers, scratch)
 }
 
 // The same for the levels of a run that are handed in without a record.
@@ -58,33 +61,16 @@ pub fn windows_of(
     ensures { λ r. ⌜ now (numbers .exit) ≡ numbersAfter (levelChecks (now (levels .entry))) (now (levels .entry)) width step (now (numbers .entry)) (now (scratch .entry)) ⌝ }
     ensures { λ r. ⌜ now (scratch .exit) ≡ scratchAfter (levelChecks (now (levels .entry))) (now (levels .entry)) width step (now (numbers .entry)) (now (scratch .entry)) ⌝ }
 {
-    if !cell_run::is_length(levels.len()) {
-        return WindowsAnswer::Refused(Refusal::RunLimit);
+    let of_run = cell_run::check_levels(levels);
+    if let Outcome::Refused(refusal) = of_run {
+        return WindowsAnswer::Refused(refusal);
     }
-    if !cell_run::all_at_most(levels, MAX_LEVEL) {
-        return WindowsAnswer::Refused(Refusal::RunLimit);
-    }
-    along(levels, width, step, numbers, scratch)
-}
-
-// The answer for a ring of any levels.
-fn along(
-    ring: &[u16],
-    width: usize,
-    step: usize,
-    numbers: &mut [u32],
-    scratch: &mut [u16],
-) -> WindowsAnswer
-    ensures { λ r. ⌜ toldWindows r ≡ windowsOf [] (now (ring .entry)) width step (now (numbers .entry)) (now (scratch .entry)) ⌝ }
-    ensures { λ r. ⌜ now (numbers .exit) ≡ numbersAfter [] (now (ring .entry)) width step (now (numbers .entry)) (now (scratch .entry)) ⌝ }
-    ensures { λ r. ⌜ now (scratch .exit) ≡ scratchAfter [] (now (ring .entry)) width step (now (numbers .entry)) (now (scratch .entry)) ⌝ }
-{
-    let checked = check_call(ring.len(), width, step, numbers.len(), scratch.len());
+    let checked = check_call(levels.len(), width, step, numbers.len(), scratch.len());
     if let Outcome::Refused(refusal) = checked {
         return WindowsAnswer::Refused(refusal);
     }
-    number_windows(ring, width, step, numbers, scratch);
-    WindowsAnswer::Filled(ring.len() / step)
+    number_windows(levels, width, step, numbers, scratch);
+    WindowsAnswer::Filled(levels.len() / step)
 }
 
 // The outcome for a width and a step on a ring of n cells, and for lists of so many places.
@@ -130,7 +116,7 @@ fn is_step(n: usize, width: usize, step: usize) -> bool
     n % step == 0
 }
 
-// Numbers each window from a copy of its levels at the front of the scratch. At the end the levels of the whole ring stand there.
+// Numbers each window. At the end the levels of the whole ring stand first in the scratch.
 fn number_windows(ring: &[u16], width: usize, step: usize, numbers: &mut [u32], scratch: &mut [u16])
     requires { ⌜ Numberable (now ring) width step (now numbers) (now scratch) ⌝ }
     ensures { λ _. ⌜ now (numbers .exit) ≡ putFirst (windowNumbers (now (ring .entry)) width step) (now (numbers .entry)) ⌝ }
@@ -140,12 +126,37 @@ fn number_windows(ring: &[u16], width: usize, step: usize, numbers: &mut [u32], 
     let mut start = 0;
     let mut k = 0;
     while k < count {
-        put_window(ring, start, width, scratch);
-        numbers[k] = number_of(&scratch[..width]);
+        numbers[k] = number_at(ring, start, width, scratch);
         start += step;
         k += 1;
     }
-    put_window(ring, 0, ring.len(), scratch);
+    put_levels(ring, scratch);
+}
+
+// The number of the window that starts at a place. A window that goes round the end of the ring is put together at the front of the scratch.
+fn number_at(ring: &[u16], start: usize, width: usize, scratch: &mut [u16]) -> u32
+    requires { ⌜ (start < length (now ring)) × ((width ≤ 12) × (width ≤ length (now scratch))) ⌝ }
+    ensures { λ r. ⌜ r ≡ windowNumber (windowAt (now (ring .entry)) width start) ⌝ }
+    ensures { λ r. ⌜ KeptPast width (now (scratch .entry)) (now (scratch .exit)) ⌝ }
+{
+    let end = start + width;
+    if end <= ring.len() {
+        return number_of(&ring[start..end]);
+    }
+    put_window(ring, start, width, scratch);
+    number_of(&scratch[..width])
+}
+
+// Puts the levels of the whole ring first into a list.
+fn put_levels(ring: &[u16], out: &mut [u16])
+    requires { ⌜ length (now ring) ≤ length (now out) ⌝ }
+    ensures { λ _. ⌜ now (out .exit) ≡ putFirst (now (ring .entry)) (now (out .entry)) ⌝ }
+{
+    let mut j = 0;
+    while j < ring.len() {
+        out[j] = ring[j];
+        j += 1;
+    }
 }
 
 // Puts the levels of a window first into a list, in ring order.
@@ -170,36 +181,45 @@ fn next_on(n: usize, at: usize) -> usize
     if at + 1 < n { at + 1 } else { 0 }
 }
 
-// The number of a window with these levels.
+// The number of a window with these levels, by Horner's rule from the last cell, two coordinates at a time. Coordinate 0, the last of an even
+// width, is 0.
 fn number_of(window: &[u16]) -> u32
     requires { ⌜ length (now window) ≤ 12 ⌝ }
     ensures { λ r. ⌜ r ≡ windowNumber (now (window .entry)) ⌝ }
 {
     let mut number: u32 = 0;
-    let mut factorial: u32 = 1;
-    let mut i: usize = 1;
-    while i < window.len() {
-        number += coordinate(window, i) * factorial;
-        i += 1;
-        factorial *= i as u32;
+    let mut i: usize = window.len();
+    while 1 < i {
+        i -= 2;
+        let two = two_coordinates(window, i);
+        number = (number * (i as u32 + 2) + two.next) * (i as u32 + 1) + two.here;
     }
     number
 }
 
-// Coordinate i of a window: how many of the i cells before cell i + 1 stand after it in the order, which are, by the tie rule of reading, those of
-// lower level.
-fn coordinate(window: &[u16], i: usize) -> u32
-    requires { ⌜ (i < length (now window)) × (length (now window) ≤ 12) ⌝ }
-    ensures { λ r. ⌜ r ≡ coordinateOf (sensed (length (now (window .entry))) (now (window .entry))) i ⌝ }
+// Coordinates i and i + 1 of a window, by one sweep over the cells before both: how many of the cells before a cell stand after it in the order, which
+// are, by the tie rule of reading, those of lower level.
+fn two_coordinates(window: &[u16], i: usize) -> TwoCoordinates
+    requires { ⌜ (i + 1 < length (now window)) × (length (now window) ≤ 12) ⌝ }
+    ensures { λ r. ⌜ r .here ≡ coordinateOf (sensed (length (now (window .entry))) (now (window .entry))) i ⌝ }
+    ensures { λ r. ⌜ r .next ≡ coordinateOf (sensed (length (now (window .entry))) (now (window .entry))) (i + 1) ⌝ }
 {
     let level = window[i];
-    let mut lower: u32 = 0;
+    let level_next = window[i + 1];
+    let mut here: u32 = 0;
+    let mut next: u32 = 0;
     let mut j = 0;
     while j < i {
         if window[j] < level {
-            lower += 1;
+            here += 1;
+        }
+        if window[j] < level_next {
+            next += 1;
         }
         j += 1;
     }
-    lower
+    if level < level_next {
+        next += 1;
+    }
+    TwoCoordinates { here, next }
 }

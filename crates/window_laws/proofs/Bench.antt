@@ -14,8 +14,8 @@ use Rattle.group.specs.Record.{allAtMost, isRow}
 use Rattle.sensing.specs.Sense.{above, insert, sorted, sensed}
 use Rattle.window.specs.Ring.{factorial, factorialSum, orderNumber, windowNumber, windowAt, windowNumbers}
 use Rattle.cell_run.specs.declared.Run.{Run}
-use Rattle.cell_run.specs.Run.{runChecks, openRunOf, raiseCellOf}
-use Rattle.window.specs.Calls.{ring, levelChecks, scratchLevels, windowsOf, numbersAfter, scratchAfter}
+use Rattle.cell_run.specs.Run.{runChecks, levelChecks, openRunOf, raiseCellOf}
+use Rattle.window.specs.Calls.{ring, scratchLevels, windowsOf, numbersAfter, scratchAfter}
 use Rattle.window_laws.specs.Turn.{turned}
 use Rattle.window.proofs.Summing.{coordinateIn}
 

@@ -1,48 +1,58 @@
--- `window::number_of` meets its contract, by the invariant of Summing.
+-- `window::number_of` meets its contract, by the invariant of Summing, two steps at a time.
 -- Assumes nothing.
 use borrow.Author.Needs.{needs}
 use Prim.Native.Nat.{_-_}
 use native.Mathlib.Omega.{arith}
-use lib.ListN.{length}
-use Rattle.window.proofs.Summing.{Summing, start, step, end, sum-fits, weight-fits}
+use Rattle.window.proofs.Summing.{Summing, Two, start, two-steps, end}
 use Rattle.window.proofs.number_of.Statement.{statement}
 use Rattle.window.proofs.number_of.Tie as tie
 
 abbrev Inv-loop : tie.InvT-loop
-Inv-loop window number₀ factorial₀ i₀ number factorial i = Summing window number factorial i
+Inv-loop window number₀ i₀ number i = Summing window number i
 
 abbrev μ-loop : tie.MeasureT-loop
-μ-loop window number₀ factorial₀ i₀ number factorial i = length window - i
+μ-loop window number₀ i₀ number i = i
 
 loop-holds : tie.Need-loop-holds Inv-loop μ-loop
 loop-holds c = start _ (c .before .pre)
 
-coordinate-requires : tie.Need-coordinate-requires Inv-loop μ-loop
-coordinate-requires c κs = search needs
+two-coordinates-requires : tie.Need-two-coordinates-requires Inv-loop μ-loop
+two-coordinates-requires c κs = let s = c .before .loop .inv in (omega (arith, s .last), s .small)
 
-mul-number : tie.Need-mul-number Inv-loop μ-loop
-mul-number c = omega (arith, sum-fits (c .before .before .loop .inv) (c .before .loop-test .taken) (c .coordinate .ensures))
+cast-number : tie.Need-cast-number Inv-loop μ-loop
+cast-number c = let s = c .before .before .loop .inv in omega (arith, s .last, s .small)
 
 add-number : tie.Need-add-number Inv-loop μ-loop
-add-number c = omega (arith, sum-fits (c .before .before .loop .inv) (c .before .loop-test .taken) (c .coordinate .ensures))
+add-number c = let s = c .before .before .loop .inv in omega (arith, s .last, s .small)
 
-add-i : tie.Need-add-i Inv-loop μ-loop
-add-i c = search needs
+-- what the two coordinates make of the sum
+two : (c : tie.After-two-coordinates Inv-loop μ-loop) → let l = c .before .before .loop in
+    Two (c .before .before .before .before .args .window .now) (l .number) (l .i - 2) (c .two-coordinates .result .next) (c .two-coordinates .result .here)
+two c = two-steps (c .before .before .loop .inv) (omega arith) (c .two-coordinates .ensures .1) (c .two-coordinates .ensures .0)
 
-cast-factorial : tie.Need-cast-factorial Inv-loop μ-loop
-cast-factorial c = search needs
+mul-number : tie.Need-mul-number Inv-loop μ-loop
+mul-number c = omega (arith, two c .half)
 
-mul-factorial : tie.Need-mul-factorial Inv-loop μ-loop
-mul-factorial c = omega (arith, weight-fits (c .before .before .loop .inv) (c .before .loop-test .taken) (c .coordinate .ensures))
+add-number-2 : tie.Need-add-number-2 Inv-loop μ-loop
+add-number-2 c = omega (arith, two (c .before) .half)
 
-loop-less : tie.Need-loop-less Inv-loop μ-loop
-loop-less c = search needs
+cast-number-2 : tie.Need-cast-number-2 Inv-loop μ-loop
+cast-number-2 c = let s = c .before .before .before .loop .inv in omega (arith, s .last, s .small)
+
+add-number-3 : tie.Need-add-number-3 Inv-loop μ-loop
+add-number-3 c = let s = c .before .before .before .loop .inv in omega (arith, s .last, s .small)
+
+mul-number-2 : tie.Need-mul-number-2 Inv-loop μ-loop
+mul-number-2 c = omega (arith, two (c .before) .whole)
+
+add-number-4 : tie.Need-add-number-4 Inv-loop μ-loop
+add-number-4 c = omega (arith, two (c .before .before) .whole)
 
 loop-again : tie.Need-loop-again Inv-loop μ-loop
-loop-again c = step (c .before .before .loop .inv) (c .before .loop-test .taken) (c .coordinate .ensures)
+loop-again c = two (c .before .before) .after
 
 returns : tie.Need-returns Inv-loop μ-loop
-returns c = end (c .before .loop .inv) (c .loop-test .left)
+returns c = end (c .before .loop .inv) (omega arith)
 
 pub number-of-spec : {M : Type 1} → statement M
 number-of-spec =
@@ -51,12 +61,16 @@ number-of-spec =
     Inv-loop
     μ-loop
     loop-holds
-    coordinate-requires
-    mul-number
+    (λ c. search needs)
+    two-coordinates-requires
+    cast-number
     add-number
-    add-i
-    cast-factorial
-    mul-factorial
-    loop-less
+    mul-number
+    add-number-2
+    cast-number-2
+    add-number-3
+    mul-number-2
+    add-number-4
+    (λ c. search needs)
     loop-again
     returns)

@@ -1,4 +1,4 @@
--- `window::windows` meets its contract: the checks of the record, and then those of its ring.
+-- `window::windows` meets its contract: the checks of the record, and then those of its levels, which pass.
 -- Assumes nothing.
 use borrow.Author.Needs.{needs}
 use Prim.Native.Nat.{_≤_}
@@ -10,7 +10,8 @@ use Rattle.order.specs.Refusals.{outcomeNumber, numberOf}
 use Rattle.order.proofs.Refusals.{accepted}
 use Rattle.cell_run.specs.Run.{runChecks}
 use Rattle.cell_run.proofs.Checks.{checked-length}
-use Rattle.window.proofs.Answers.{run-refused, run-passed}
+use Rattle.cell_run.proofs.Runs.{IsRun, levels-pass}
+use Rattle.window.proofs.Answers.{run-refused, run-passed, run-passing}
 use Rattle.window.proofs.windows.Statement.{statement}
 use Rattle.window.proofs.windows.Tie as tie
 
@@ -34,8 +35,8 @@ within c =
 array-share-prefix-levels : tie.Need-array-share-prefix-levels
 array-share-prefix-levels c = within (c .before)
 
-slice-aggregate-along : tie.Need-slice-aggregate-along
-slice-aggregate-along c =
+slice-aggregate-windows-of : tie.Need-slice-aggregate-windows-of
+slice-aggregate-windows-of c =
     let d = c .before .before in
     let r = d .before .before .before .before .before .args .run in
     sym (length-take-le (r .len) (r .levels) (within d))
@@ -43,7 +44,10 @@ slice-aggregate-along c =
 returns-2 : tie.Need-returns-2
 returns-2 c =
     let n = c .before .before .before .before in
-    run-passed _ _ _ _ _ _ (passed (n .before .before .before .before .before)) (n .along .ensures)
+    let d = n .before .before .before .before .before in
+    let start = d .before .before .before .before .before in
+    let run : IsRun (start .args .run) = record { passes = passed d; levels = all start } in
+    run-passed _ _ _ _ _ _ (passed d) (run-passing _ _ _ _ _ _ (levels-pass (start .args .run) run) (n .windows-of .ensures))
 
 pub windows-spec : {M : Type 1} → statement M
 windows-spec =
@@ -54,7 +58,7 @@ windows-spec =
     returns
     (λ c. search needs)
     array-share-prefix-levels
-    slice-aggregate-along
+    slice-aggregate-windows-of
     (λ c κs. search needs)
     (λ c. search needs)
     (λ c. search needs)

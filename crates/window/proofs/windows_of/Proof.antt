@@ -1,45 +1,65 @@
--- `window::windows_of` meets its contract: the checks of the levels, and then those of their ring.
+-- `window::windows_of` meets its contract: the checks of the levels, and then those of the call.
 -- Assumes nothing.
 use borrow.Author.Needs.{needs}
-use borrow.Author.Tests.{not-true, not-false}
-use mathlib.Core.Path.{_≡_, sym, _∙_}
-use mathlib.Core.Bool.{true}
+use mathlib.Core.Path.{_≡_, sym, ap, _∙_}
 use lib.ListN.{length}
-use Rattle.order.specs.declared.Refusal.the-variants.{RunLimit}
-use Rattle.order.proofs.Refusals.{check-fails, check-holds, all-hold}
-use Rattle.cell_run.specs.Run.{isLength}
-use Rattle.window.proofs.Answers.{run-refused, run-passed}
+use Rattle.order.specs.Refusals.{outcomeNumber, numberOf}
+use Rattle.order.proofs.Refusals.{accepted}
+use Rattle.cell_run.specs.Run.{levelChecks}
+use Rattle.window.specs.Steps.{callChecks}
+use Rattle.window.proofs.Answers.{run-refused, run-passed, call-refused, numberable, filled}
 use Rattle.window.proofs.windows_of.Statement.{statement}
 use Rattle.window.proofs.windows_of.Tie as tie
 
 returns : tie.Need-returns
-returns c = run-refused _ _ _ _ _ _ RunLimit (check-fails _ _ (sym (c .before .is-length .ensures) ∙ not-true _ (c .if1 .taken)))
+returns c =
+    let known = c .before .of-run .given in
+    run-refused _ _ _ _ _ _ (known .0 .0) (sym (c .before .before .before .check-levels .ensures) ∙ ap outcomeNumber (known .1))
 
--- the length has passed
-sized : (c : tie.Else1) → isLength (length (c .before .before .before .before .before .args .levels .now)) ≡ true
-sized c = sym (c .before .is-length .ensures) ∙ not-false _ (c .if1 .left)
+-- the levels have passed
+held : (c : tie.After-enum-told) → numberOf (levelChecks (c .before .before .before .before .before .before .args .levels .now)) ≡ 0
+held c = accepted (c .before .before .check-levels .ensures) (c .enum-told .given .1)
 
 returns-2 : tie.Need-returns-2
 returns-2 c =
-    run-refused _ _ _ _ _ _ RunLimit
-    (check-holds _ _ (sized (c .before .before)) ∙ check-fails _ _ (sym (c .before .all-at-most .ensures) ∙ not-true _ (c .if2 .taken)))
+    let call = c .before .before .before in
+    let known = c .before .checked .given in
+    run-passed _ _ _ _ _ _ (held (call .before)) (call-refused _ _ _ _ _ (known .0 .0) (sym (call .check-call .ensures) ∙ ap outcomeNumber (known .1)))
+
+-- and so has the call
+passed : (c : tie.After-enum-told2) → let a = c .before .before .before .before .before .before .before .before .before .args in
+    numberOf (callChecks (length (a .levels .now)) (a .width) (a .step) (length (a .numbers .now)) (length (a .scratch .now))) ≡ 0
+passed c = accepted (c .before .before .check-call .ensures) (c .enum-told2 .given .1)
+
+number-windows-requires : tie.Need-number-windows-requires
+number-windows-requires c κs = numberable _ _ _ _ _ (passed (c .before .before))
+
+div-t11 : tie.Need-div-t11
+div-t11 c =
+    let d = c .before .before .before .before .before .before .before in
+    let a = d .before .before .before .before .before .before .before .before .before .args in
+    numberable (a .levels .now) (a .width) (a .step) (a .numbers .now) (a .scratch .now) (passed d) .forward
 
 returns-3 : tie.Need-returns-3
 returns-3 c =
     let n = c .before .before .before .before in
     let d = n .before .before .before in
-    run-passed _ _ _ _ _ _
-    (check-holds _ _ (sized (d .before .before)) ∙ check-holds _ _ (sym (d .before .all-at-most .ensures) ∙ not-false _ (d .if2 .left)) ∙ all-hold) (n .along .ensures)
+    run-passed _ _ _ _ _ _ (held (d .before .before .before)) (filled _ _ _ _ _ (passed d) (n .number-windows .ensures .0) (n .number-windows .ensures .1))
 
 pub windows-of-spec : {M : Type 1} → statement M
 windows-of-spec =
     tie.close
     (tie.spec
     (λ c κs. search needs)
+    (λ c. search needs)
     returns
+    (λ c. search needs)
     (λ c κs. search needs)
+    (λ c. search needs)
     returns-2
-    (λ c κs. search needs)
+    (λ c. search needs)
+    number-windows-requires
+    div-t11
     (λ c. search needs)
     (λ c. search needs)
     returns-3)
