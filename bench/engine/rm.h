@@ -26,6 +26,38 @@ size_t rm_room(size_t size);
 /* K(n), the number of codewords of n cells; 0 where n is not 3 to 12. */
 uint32_t rm_words(size_t n);
 
+/* The numbers of the windows along a run (local rank modulation).
+ *
+ * A run is a ring of cells: cell 1 follows the last one. levels has the level of each, cell 1 first.
+ * A window is width cells of the ring one after another. The first window starts with cell 1, the
+ * next with cell 1 + step, and so on; there are levels_len / step windows, and the last ones may go
+ * round the end of the run.
+ *
+ * The number of a window tells the order of its levels, from 0 up to the factorial of width less 1.
+ * With its cells numbered anew from 1, it is the sum of c(i) times i factorial for i from 1 to
+ * width - 1, where c(i) counts the cells before cell i + 1 of the window that have a lower level. Of
+ * two cells with equal levels, the one that comes first in the window thus counts as the higher.
+ *
+ * On 0 the numbers of the windows stand at the start of numbers, in the order of the windows, and
+ * the run's levels at the start of scratch. All places after these keep what they held, and levels is
+ * only read. Otherwise nothing is written, and the answer says why:
+ *   13  levels_len is not 3 to 128, or a level is above 4,095, or width is not 3 to 12 or is above
+ *       levels_len, or step is 0 or above width or does not divide levels_len
+ *   15  numbers_len is below levels_len / step, or scratch_len is below levels_len
+ * 13 comes before 15. 128 places are always enough for either list.
+ *
+ * For example, levels 5 9 5 2, width 3 and step 1 give four windows:
+ *   cells 1 2 3, levels 5 9 5: c(1) = 1, c(2) = 0, number 1 * 1 + 0 * 2 = 1
+ *   cells 2 3 4, levels 9 5 2: c(1) = 0, c(2) = 0, number 0
+ *   cells 3 4 1, levels 5 2 5: c(1) = 0, c(2) = 1, number 2
+ *   cells 4 1 2, levels 2 5 9: c(1) = 1, c(2) = 2, number 5
+ *
+ * All memory stays the caller's, who sees to it that levels, numbers and scratch, aligned and not
+ * null even where a length is 0, have levels_len, numbers_len and scratch_len elements, and that
+ * none of the three overlaps another. */
+uint8_t rm_windows(const uint16_t *levels, size_t levels_len, size_t width, size_t step,
+                   uint32_t *numbers, size_t numbers_len, uint16_t *scratch, size_t scratch_len);
+
 #ifdef __cplusplus
 }
 #endif

@@ -5,6 +5,16 @@ use std::num::NonZero;
 
 unsafe extern "C" {
     fn rm_run(input: *const u8, input_len: usize, out: *mut u8, out_len: usize) -> usize;
+    fn rm_windows(
+        levels: *const u16,
+        levels_len: usize,
+        width: usize,
+        step: usize,
+        numbers: *mut u32,
+        numbers_len: usize,
+        scratch: *mut u16,
+        scratch_len: usize,
+    ) -> u8;
     // these take any number
     safe fn rm_room(size: usize) -> usize;
     safe fn rm_words(n: usize) -> u32;
@@ -36,4 +46,33 @@ pub fn room(size: usize) -> usize {
 /// K(n), the number of codewords of n cells; `None` where n is not 3 to 12.
 pub fn words(n: usize) -> Option<u32> {
     Some(rm_words(n)).filter(|&words| words != 0)
+}
+
+/// Puts the numbers of the windows along a run with these levels at the start of `numbers`, and the
+/// levels at the start of `scratch`; how many windows there are. Where it is refused both stay as
+/// they were, and the number of the refusal comes back: 13 or 15.
+pub fn windows(
+    levels: &[u16],
+    width: usize,
+    step: usize,
+    numbers: &mut [u32],
+    scratch: &mut [u16],
+) -> Result<usize, u8> {
+    // SAFETY: each pointer is that of a slice, not null and aligned, with the slice's length after it,
+    // and the three slices live until the call returns. None overlaps another, since `numbers` and
+    // `scratch` are borrowed mutably. The function has no other precondition, writes to these two
+    // alone, keeps no pointer, returns always.
+    let refusal = unsafe {
+        rm_windows(
+            levels.as_ptr(),
+            levels.len(),
+            width,
+            step,
+            numbers.as_mut_ptr(),
+            numbers.len(),
+            scratch.as_mut_ptr(),
+            scratch.len(),
+        )
+    };
+    if refusal == 0 { Ok(levels.len() / step) } else { Err(refusal) }
 }

@@ -4,6 +4,8 @@
 //! - [`order`]: orders of cells, their coordinates, distance, displacements and cost.
 //! - [`code`]: the one-error code, its numbering both ways and its decoder.
 //! - [`group`]: the group record and the plain machine.
+//! - [`windows`]: runs of cells, and the numbers of the windows along them.
+//! - [`rounds`]: calls for windows, repeated and summed up, for the benchmark.
 //! - [`calls`]: the program `rmcalls`, bytes in and text out.
 //! - [`refusal`]: the refusal table.
 
@@ -14,6 +16,8 @@ pub mod code;
 pub mod group;
 pub mod order;
 pub mod refusal;
+pub mod rounds;
+pub mod windows;
 
 pub use calls::run;
 

@@ -15,6 +15,9 @@ pub enum Refusal {
     ListShort = 10,
     Coordinate = 11,
     BadRecord = 12,
+    RunLimit = 13,
+    NoRaise = 14,
+    RoomShort = 15,
 }
 
 impl Refusal {

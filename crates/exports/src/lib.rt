@@ -1,13 +1,16 @@
-// The engine for programs in C and Rust (`rt staticlib exports`): the interpreter of call records, the room that its text needs, and the
-// number of codewords. Each function takes anything, and equations with the definitions of `runs` and `code` determine what it answers and
-// leaves. Proved besides: a buffer of the length that `rm_room` answers takes the whole text (runs, proofs/Room).
+// The engine for programs in C and Rust (`rt staticlib exports`): the interpreter of call records, the room that its text needs, the number of
+// codewords, and the numbers of the windows along a run. Each function takes anything, and equations with the definitions of `runs`, `code`
+// and `window` determine what it answers and leaves. Proved besides: a buffer of the length that `rm_room` answers takes the whole text (runs, proofs/Room).
 use code::WordsAnswer;
+use window::WindowsAnswer;
 ghost use mathlib.Core.Path.{_≡_};
 ghost use mathlib.Core.List.{_++_};
 ghost use Prim.Native.Nat.{min};
 ghost use lib.ListN.{length, drop};
 ghost use Rattle.code.specs.Symbols.{wordsOf};
 ghost use Rattle.runs.specs.Text.{room, printed};
+ghost use Rattle.cell_run.specs.Run.{levelChecks};
+ghost use Rattle.window.specs.Calls.{windowsOf, numbersAfter, scratchAfter};
 
 // Puts what `rmcalls` prints for an input at the start of out, and answers how many bytes that is. Where out is shorter than
 // `rm_room` of the input's length, it stays as it was, and the answer is 0.
@@ -37,4 +40,25 @@ pub extern "C" fn rm_words(n: usize) -> u32
         return 0;
     };
     words
+}
+
+// Puts the numbers of the windows along a run with these levels at the start of a list, and the levels at the start of a scratch. The answer is
+// the number of a refusal, where both lists stay as they were, or 0.
+#[no_mangle]
+pub extern "C" fn rm_windows(
+    levels: &[u16],
+    width: usize,
+    step: usize,
+    numbers: &mut [u32],
+    scratch: &mut [u16],
+) -> u8
+    ensures { λ r. ⌜ r ≡ windowsOf (levelChecks (now (levels .entry))) (now (levels .entry)) width step (now (numbers .entry)) (now (scratch .entry)) .number ⌝ }
+    ensures { λ r. ⌜ now (numbers .exit) ≡ numbersAfter (levelChecks (now (levels .entry))) (now (levels .entry)) width step (now (numbers .entry)) (now (scratch .entry)) ⌝ }
+    ensures { λ r. ⌜ now (scratch .exit) ≡ scratchAfter (levelChecks (now (levels .entry))) (now (levels .entry)) width step (now (numbers .entry)) (now (scratch .entry)) ⌝ }
+{
+    let answer = window::windows_of(levels, width, step, numbers, scratch);
+    if let WindowsAnswer::Refused(refusal) = answer {
+        return order::refusal_number(refusal);
+    }
+    0
 }

@@ -1,13 +1,15 @@
-// Runs the functions of `exports`, and `calls::run`, as a program that links them does: the number of codewords of n cells for n = 0 to 13; for each
-// file of data/ the room, the answers where a byte of it is missing and where none is, and the text; and an input longer than is read. The
-// expected text is not the engine's own: scripts/reference reckons the texts, and K(n) is the number of ways to choose coordinates 1 to n - 1,
-// coordinate i from 0 to i, such that the sum of i times coordinate i is divisible by 2n - 1, counted one residue at a time.
+// Runs the functions of `exports`, and `calls::run`, as a program that links them does: the number of codewords of n cells for n = 0 to 13; the
+// windows of a run of 14 cells; for each file of data/ the room, the answers where a byte of it is missing and
+// where none is, and the text; and an input longer than is read. The expected text is not the engine's own: scripts/reference reckons the texts
+// and, with --windows, the windows; K(n) is the number of ways to choose coordinates 1 to n - 1, coordinate i from 0 to i, such that the sum of i
+// times coordinate i is divisible by 2n - 1, counted one residue at a time.
 use libc::STDOUT_FILENO;
 ghost use mathlib.Core.Path.{_≡_};
 ghost use lib.ListN.{length};
 
 fn main() {
     words();
+    windows();
     show(b"refusals");
     show(b"left");
     show(b"empty");
@@ -24,6 +26,24 @@ fn words() {
     while n < 14 {
         number(b"words ", exports::rm_words(n) as u64);
         n += 1;
+    }
+}
+
+// Two windows of 12 cells along 14 that are 7 cells apart, in a list of three places. The second closes the ring.
+fn windows() {
+    let levels: [u16; 14] = [5, 1, 1, 9, 0, 3, 5, 0, 2, 2, 4, 9, 1, 0];
+    let mut numbers: [u32; 3] = [7, 7, 7];
+    let mut scratch: [u16; 14] = [0; 14];
+    let done = exports::rm_windows(&levels, 12, 7, &mut numbers, &mut scratch);
+    number(b"rm_windows ", wide(done));
+    list_numbers(&numbers);
+}
+
+fn list_numbers(numbers: &[u32]) {
+    let mut i = 0;
+    while i < numbers.len() {
+        number(b"number ", wide_number(numbers[i]));
+        i += 1;
     }
 }
 
@@ -106,6 +126,10 @@ fn text_buffer() -> [u8; 1048640]
 
 fn wide(b: u8) -> u64 {
     b as u64
+}
+
+fn wide_number(n: u32) -> u64 {
+    n as u64
 }
 
 fn number(name: &[u8], n: u64) {
