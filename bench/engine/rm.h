@@ -33,12 +33,13 @@ uint32_t rm_words(size_t n);
  * next with cell 1 + step, and so on; there are levels_len / step windows, and the last ones may go
  * round the end of the run.
  *
- * The number of a window tells the order of its levels, from 0 up to the factorial of width less 1.
+ * The number of a window tells the order of its levels; it is from 0 to width! - 1, where width! is
+ * 1 * 2 * .. * width.
  * With its cells numbered anew from 1, it is the sum of c(i) times i factorial for i from 1 to
  * width - 1, where c(i) counts the cells before cell i + 1 of the window that have a lower level. Of
  * two cells with equal levels, the one that comes first in the window thus counts as the higher.
  *
- * On 0 the numbers of the windows stand at the start of numbers, in the order of the windows, and
+ * Where 0 is returned, the numbers of the windows stand at the start of numbers, in the order of the windows, and
  * the run's levels at the start of scratch. All places after these keep what they held, and levels is
  * only read. Otherwise nothing is written, and the answer says why:
  *   13  levels_len is not 3 to 128, or a level is above 4,095, or width is not 3 to 12 or is above

@@ -21,7 +21,7 @@ use Rattle.group.proofs.Checks.{cell-true}
 use Rattle.group.proofs.Groups.{told-value, told-accepted}
 use Rattle.group.proofs.LevelRows.{zeros-row}
 use Rattle.cell_run.specs.declared.Run.{Run}
-use Rattle.cell_run.specs.Run.{isLength, runChecks, levelChecks, openedRun, noRun, isRaise, cellChecks, raiseChecks, raised, openRunOf, raiseCellOf}
+use Rattle.cell_run.specs.Run.{isLength, runChecks, levelChecks, openedRun, noRun, isRaise, cellChecks, raiseChecks, raisedRun, openRunOf, raiseCellOf}
 use Rattle.cell_run.proofs.Checks.{checked-length, checked-row}
 use Rattle.cell_run.proofs.Rows.{row-split}
 
@@ -54,7 +54,7 @@ row-set m n ls i v h l e =
 pub raise-run : (r : Run) (c : Cell) (v : ℕ) → IsRun r → IsRun (raiseCellOf r c v .value)
 unfolding raiseCellOf put
 raise-run r c v h =
-    told-value IsRun (raiseChecks r c v) (raised r c v) r
+    told-value IsRun (raiseChecks r c v) (raisedRun r c v) r
     (λ e.
     let t = all-held _ (cellChecks r c) e in
     let cell = cell-true (r .len) (c .0) (check-held (isCell (r .len) (c .0)) NoCell [] (all-held _ (runChecks r) (t .0) .1) .0) in

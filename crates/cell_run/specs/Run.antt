@@ -11,7 +11,7 @@
 --   cellChecks r c      the checks of a run and of one of its cells: 13, 3
 --   isRaise old new     the new level is not lower than the old one, nor above 4,095
 --   raiseChecks r c v   the checks of a raise: 13, 3, 14
---   raised r c v        the run with cell c at level v
+--   raisedRun r c v     the run with cell c at level v
 --   raiseCellOf r c v   the answer to a raise; a refused one returns the run given
 use Prim.Native.Nat.{ℕ}
 use mathlib.Core.Bool.{Bool, _&&_}
@@ -58,8 +58,8 @@ isRaise old new = leb old new && leb new 4095
 abbrev pub raiseChecks : Run → Cell → ℕ → List (Bool × Refusal)
 raiseChecks r c v = cellChecks r c ++ (isRaise (level (r .levels) (c .0)) v, NoRaise) ∷ []
 
-abbrev pub raised : Run → Cell → ℕ → Run
-raised r c v = record { len = r .len; levels = put (r .levels) (c .0) v }
+abbrev pub raisedRun : Run → Cell → ℕ → Run
+raisedRun r c v = record { len = r .len; levels = put (r .levels) (c .0) v }
 
 unfoldable pub raiseCellOf : Run → Cell → ℕ → Told Run
-raiseCellOf r c v = answer (raiseChecks r c v) (raised r c v) r
+raiseCellOf r c v = answer (raiseChecks r c v) (raisedRun r c v) r

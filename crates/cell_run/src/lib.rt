@@ -1,6 +1,6 @@
 // Runs of 3 to 128 cells (document 02, request (a)): the record, and the calls that open a run and raise its cells. A run goes in by value and comes
-// back by value. Every public function takes any value and answers it by one equation with a definition of specs/. Proved besides: a run stays a
-// run (proofs/Runs).
+// back by value. Every public function takes any value, and one equation with a definition of specs/ fixes its answer. Proved besides: a run
+// stays a run (proofs/Runs).
 use order::Cell;
 use order::Outcome;
 use order::Refusal;
@@ -71,7 +71,7 @@ fn has_row(run: Run) -> bool
     }
 }
 
-// Whether no level is above the highest that is allowed: what is too high is gathered, and none is.
+// Whether no level is above the highest that is allowed: by how much levels are too high is gathered in one number, which must stay 0.
 fn all_at_most(levels: &[u16], highest: u16) -> bool
     ensures { λ r. ⌜ r ≡ allAtMost highest (now (levels .entry)) ⌝ }
 {

@@ -88,7 +88,7 @@ module _ (ls : List ℕ) (width step : ℕ) (numbers scratch : List ℕ) where
         }
 
     -- the windows are numbered
-    pub filled : {ns ss : List ℕ} → ns ≡ putFirst (windowNumbers ls width step) numbers → ss ≡ putFirst ls scratch
+    pub filled : {ns ss : List ℕ} → ns ≡ putFirst (windowNumbers ls width step) numbers → ss ≡ putFirst (scratchLevels ls width step) scratch
         → Answered [] ls width step numbers scratch (record { number = 0; value = length ls / step }) ns ss
     unfolding windowsOf numbersAfter scratchAfter scratchLevels
     filled {ns} {ss} e f =

@@ -11,7 +11,7 @@ use lib.Seq.{take-at, drop-at, drop-drop, ext-getD, getD-take, getD-drop, length
 use Rattle.order.specs.Cells.{tabulate}
 use Rattle.order.proofs.Tabulate.{length-tabulate, getD-tabulate}
 use Rattle.window.specs.Ring.{windowNumber, windowAt, windowNumbers}
-use Rattle.window.specs.Calls.{putFirst}
+use Rattle.window.specs.Calls.{scratchLevels, putFirst}
 use Rattle.window.specs.Steps.{Numberable, KeptPast}
 use Rattle.window.proofs.Placing.{grown, grown-none, grown-length, grown-more, grown-whole, levelOn}
 
@@ -109,7 +109,8 @@ module _ {ring : List ℕ} {width step : ℕ} {numbers₀ scratch₀ numbers scr
       s .list ∙ grown-whole (numberAt ring width step) k numbers₀ ∙ ap (λ (n : ℕ). putFirst (tabulate n (numberAt ring width step)) numbers₀) e
 
   -- the whole ring put over the last window
-  pub scratch-done : {new : List ℕ} → new ≡ putFirst ring scratch → new ≡ putFirst ring scratch₀
+  pub scratch-done : {new : List ℕ} → new ≡ putFirst ring scratch → new ≡ putFirst (scratchLevels ring width step) scratch₀
+  unfolding scratchLevels
   scratch-done {new} e =
       let past : width + (length ring - width) ≡ length ring = omega (arith, s .needs .inside) in
       let later : drop (length ring) scratch ≡ drop (length ring) scratch₀ =

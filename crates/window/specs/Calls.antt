@@ -3,12 +3,13 @@
 --   ring r               the levels of the run's cells, which stand in a ring
 --   isWidth n w          a window of a run of n cells has 3 to 12 cells, not above n
 --   isStep n w s         a step is from 1 up to the width, and divides n
---   scratchLevels ls     what stands first in the scratch after the call: the run's levels, whatever the width and the step
+--   scratchLevels ls w s what stands first in the scratch after the call: the run's levels, whatever the width and the step
 --   hasRoom new old      a lent list is long enough for what goes into it
 --   toldWindows a        what the answer says: its number, and how many numbers were filled in
 --   putFirst new old     a lent list with new elements first, and the later places untouched
 --
--- Of a call: ofRun are the checks of the run as it is handed in (`runChecks`, `levelChecks` of cell_run), ls the levels of its ring, numbers and scratch the lists that are lent.
+-- Of a call: ofRun are the checks of the run as it is handed in (`runChecks`, `levelChecks` of cell_run), ls the levels of its ring,
+-- width and step the numbers handed in, numbers and scratch the lists that are lent.
 --
 --   windowChecks         its checks: those of the run, then 13 for width and step, then 15
 --   windowsOf            its answer: 0 and how many numbers were filled in, else the refusal and 0

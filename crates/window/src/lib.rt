@@ -12,7 +12,7 @@ ghost use Rattle.coordinates.specs.Coordinates.{coordinateOf};
 ghost use Rattle.sensing.specs.Sense.{sensed};
 ghost use Rattle.cell_run.specs.Run.{runChecks, levelChecks};
 ghost use Rattle.window.specs.Ring.{windowNumber, windowAt, windowNumbers};
-ghost use Rattle.window.specs.Calls.{ring, isWidth, isStep, putFirst, toldWindows, windowsOf, numbersAfter, scratchAfter};
+ghost use Rattle.window.specs.Calls.{ring, isWidth, isStep, scratchLevels, putFirst, toldWindows, windowsOf, numbersAfter, scratchAfter};
 ghost use Rattle.window.specs.Steps.{callChecks, Numberable, KeptPast};
 
 // How many windows were numbered, or why none was.
@@ -120,7 +120,7 @@ fn is_step(n: usize, width: usize, step: usize) -> bool
 fn number_windows(ring: &[u16], width: usize, step: usize, numbers: &mut [u32], scratch: &mut [u16])
     requires { ⌜ Numberable (now ring) width step (now numbers) (now scratch) ⌝ }
     ensures { λ _. ⌜ now (numbers .exit) ≡ putFirst (windowNumbers (now (ring .entry)) width step) (now (numbers .entry)) ⌝ }
-    ensures { λ _. ⌜ now (scratch .exit) ≡ putFirst (now (ring .entry)) (now (scratch .entry)) ⌝ }
+    ensures { λ _. ⌜ now (scratch .exit) ≡ putFirst (scratchLevels (now (ring .entry)) width step) (now (scratch .entry)) ⌝ }
 {
     let count = ring.len() / step;
     let mut start = 0;

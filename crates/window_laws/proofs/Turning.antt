@@ -35,36 +35,36 @@ turned-tabulate n k f l r =
 -- ---- a ring that is turned
 
 -- the level of the cell i places past cell 1, round the ring
-abbrev levelOn : List ℕ → ℕ → ℕ
-levelOn ring i = getD ring (i % length ring) 0
+abbrev levelAt : List ℕ → ℕ → ℕ
+levelAt ring i = getD ring (i % length ring) 0
 
-ring-tabulate : (ring : List ℕ) → ring ≡ tabulate (length ring) (levelOn ring)
+ring-tabulate : (ring : List ℕ) → ring ≡ tabulate (length ring) (levelAt ring)
 ring-tabulate ring =
     let n = length ring in
-    ext-getD 0 ring (tabulate n (levelOn ring)) (sym (length-tabulate n (levelOn ring)))
-    (λ i l. ap (λ (t : ℕ). getD ring t 0) (sym (mod-eq-of-lt l)) ∙ sym (getD-tabulate n (levelOn ring) i 0 l))
+    ext-getD 0 ring (tabulate n (levelAt ring)) (sym (length-tabulate n (levelAt ring)))
+    (λ i l. ap (λ (t : ℕ). getD ring t 0) (sym (mod-eq-of-lt l)) ∙ sym (getD-tabulate n (levelAt ring) i 0 l))
 
 module _ (ring : List ℕ) (s : ℕ) (l : s ≤ length ring) where
-  turned-ring : turned s ring ≡ tabulate (length ring) (λ i. levelOn ring (s + i))
+  turned-ring : turned s ring ≡ tabulate (length ring) (λ i. levelAt ring (s + i))
   turned-ring =
       ap (turned s) (ring-tabulate ring)
-      ∙ turned-tabulate (length ring) s (levelOn ring) l (λ i. ap (λ (t : ℕ). getD ring t 0) (add-mod-left (length ring) i))
+      ∙ turned-tabulate (length ring) s (levelAt ring) l (λ i. ap (λ (t : ℕ). getD ring t 0) (add-mod-left (length ring) i))
 
   turned-length : length (turned s ring) ≡ length ring
   turned-length = ap length turned-ring ∙ length-tabulate (length ring) _
 
-  turned-level : 0 < length ring → (i : ℕ) → levelOn (turned s ring) i ≡ levelOn ring (s + i)
+  turned-level : 0 < length ring → (i : ℕ) → levelAt (turned s ring) i ≡ levelAt ring (s + i)
   turned-level p i =
       let n = length ring in
       ap₂ (λ (xs : List ℕ) (t : ℕ). getD xs (i % t) 0) turned-ring turned-length
-      ∙ getD-tabulate n (λ i. levelOn ring (s + i)) (i % n) 0 (mod-lt i p)
+      ∙ getD-tabulate n (λ i. levelAt ring (s + i)) (i % n) 0 (mod-lt i p)
       ∙ ap (λ (t : ℕ). getD ring t 0) (add-mod-mod s i n)
 
   -- a window of the turned ring is the window of the ring that starts s cells later
   turned-window : 0 < length ring → (width p : ℕ) → windowAt (turned s ring) width p ≡ windowAt ring width (s + p)
   unfolding windowAt
   turned-window h width p =
-      tabulate-ext width _ _ (λ j l. turned-level h (p + j) ∙ ap (levelOn ring) (sym (add-assoc s p j)))
+      tabulate-ext width _ _ (λ j l. turned-level h (p + j) ∙ ap (levelAt ring) (sym (add-assoc s p j)))
 
 -- the ring comes back to the same window
 window-round : (ring : List ℕ) (width p : ℕ) → windowAt ring width (length ring + p) ≡ windowAt ring width p
