@@ -2,14 +2,15 @@
 -- has to be made. The tie rule of reading comes in by `above`, and by the four laws of the first section.
 -- Assumes nothing.
 use Prim.Native.Nat.{ℕ, zero, suc, _+_, _-_, _≤_, _<_}
-use mathlib.Core.Path.{_≡_, refl, ap, _∙_}
+use mathlib.Core.Path.{_≡_, refl, sym, ap, _∙_}
 use mathlib.Core.Bool.{Bool, true, false, not, _&&_, cond}
 use mathlib.Core.Logic.{⊎-elim}
 use mathlib.Core.List.{List, [], _∷_}
 use native.Mathlib.Nat.{add-zero}
+use native.Mathlib.Numerals.{add-one}
 use native.Mathlib.Omega.{arith}
 use lib.Dec.{ltb}
-use lib.ListN.{getD}
+use lib.ListN.{length, getD}
 use borrow.Author.Tests.{le-leb, lt-leb, lt-ltb, le-ltb}
 use Rattle.order.specs.Cells.{tally, countIf, count, below}
 use Rattle.order.proofs.Cells.{tally-ne, tally-le, eq-cases, lt-cases, order-count}
@@ -38,14 +39,15 @@ level-next ls c = let e : suc c - 1 ≡ c = omega arith in rw e
 unfoldable pub under : List ℕ → ℕ → ℕ → Bool
 under ls d x = ltb x d && not (above ls x d)
 
-module _ (ls : List ℕ) (i j : ℕ) (l : j < i) where
-  pub under-lower : getD ls j 0 < getD ls i 0 → tally (under ls (suc i) (suc j)) ≡ 1
-  unfolding under above
-  under-lower h = rw (level-next ls i, level-next ls j, lt-ltb (suc j) (suc i) (omega arith), lt-leb (getD ls i 0) (getD ls j 0) h)
-
-  pub under-not : getD ls i 0 ≤ getD ls j 0 → tally (under ls (suc i) (suc j)) ≡ 0
-  unfolding under above
-  under-not h = rw (level-next ls i, level-next ls j, lt-ltb (suc j) (suc i) (omega arith), le-leb (getD ls i 0) (getD ls j 0) h)
+-- it is so where its level is lower
+pub under-lower : (ls : List ℕ) (i j : ℕ) → j < i → tally (under ls (suc i) (suc j)) ≡ tally (ltb (getD ls j 0) (getD ls i 0))
+unfolding under above
+under-lower ls i j l =
+    rw (level-next ls i, level-next ls j, lt-ltb (suc j) (suc i) (omega arith))
+    (⊎-elim
+    (λ t. rw (t .1, lt-leb (getD ls i 0) (getD ls j 0) (t .0)))
+    (λ t. rw (t .1, le-leb (getD ls i 0) (getD ls j 0) (t .0)))
+    (lt-cases (getD ls j 0) (getD ls i 0)))
 
 -- ---- in a list by falling level
 
@@ -108,6 +110,10 @@ module _ (test : ℕ → Bool) (ls : List ℕ) where
       let e : b + suc k ≡ suc b + k = omega arith in
       rw e (omega (arith, countIf-insert (suc b) (sorted ls (suc (suc b)) k), sorted-count (suc b) k))
 
+count-one : (test : ℕ → Bool) (i : ℕ) → countTo test (i + 1) ≡ countTo test i + tally (test (suc i))
+unfolding countTo
+count-one test i = rw (add-one i) refl
+
 -- none past cell i is below cell i + 1 in number
 count-stop : (ls : List ℕ) (i m : ℕ) → countTo (under ls (suc i)) (i + m) ≡ countTo (under ls (suc i)) i
 unfolding countTo
@@ -126,3 +132,42 @@ coordinate-under n ls i l =
     let f : 0 + n ≡ i + (n - i) = omega arith in
     after-under ls (suc i) (sorted ls 1 n) (sensed-sorted n ls) (omega (arith, order-count n (sensed n ls) o i l))
     ∙ omega (arith, all, count-to-le test 0, ap (countTo test) f, count-stop ls i (n - i))
+
+-- ---- two coordinates in one sweep
+
+-- after j of the cells before cells i + 1 and i + 2; the first of the two is counted for the second from the start
+pub record Counting (ls : List ℕ) (i j here next : ℕ) : Type 0 where
+  pub reached : j ≤ i
+  pub first : here ≡ countTo (under ls (suc i)) j
+  pub second : next ≡ tally (under ls (suc (i + 1)) (suc i)) + countTo (under ls (suc (i + 1))) j
+
+pub counting-none : (ls : List ℕ) (i : ℕ) {v : ℕ} → v ≡ tally (ltb (getD ls i 0) (getD ls (i + 1) 0)) → Counting ls i 0 0 v
+unfolding countTo
+counting-none ls i e = record { reached = omega arith; first = refl; second = omega (arith, e, under-lower ls (i + 1) i (omega arith)) }
+
+module _ {ls : List ℕ} {i j here next : ℕ} (c : Counting ls i j here next) where
+  counted-low : (here ≤ j) × (next ≤ j + 1)
+  counted-low = (
+    omega (arith, c .first, count-to-le (under ls (suc i)) j),
+    omega (arith, c .second, count-to-le (under ls (suc (i + 1))) j, tally-le (under ls (suc (i + 1)) (suc i))),
+  )
+
+  -- one more of each
+  pub counted-fits : (b : Bool) {u : ℕ} → u ≡ tally b → (here + u ≤ i + 1) × (next + u ≤ i + 2)
+  counted-fits b e = let low = counted-low in (omega (arith, low, c .reached, e, tally-le b), omega (arith, low, c .reached, e, tally-le b))
+
+  pub counting-more : {u v : ℕ} → j < i → u ≡ tally (ltb (getD ls j 0) (getD ls i 0)) → v ≡ tally (ltb (getD ls j 0) (getD ls (i + 1) 0))
+      → Counting ls i (j + 1) (here + u) (next + v)
+  unfolding countTo
+  counting-more l e f =
+      record {
+        reached = omega arith;
+        first = rw (add-one j) (omega (arith, c .first, e, under-lower ls i j l));
+        second = rw (add-one j) (omega (arith, c .second, f, under-lower ls (i + 1) j (omega arith)));
+      }
+
+  pub counting-done : i ≤ j → i + 1 < length ls → (here ≡ coordinateOf (sensed (length ls) ls) i) × (next ≡ coordinateOf (sensed (length ls) ls) (i + 1))
+  counting-done h l =
+      let e : j ≡ i = omega (arith, c .reached) in
+      let last : next ≡ countTo (under ls (suc (i + 1))) (i + 1) = omega (arith, c .second, ap (countTo (under ls (suc (i + 1)))) e, count-one (under ls (suc (i + 1))) i) in
+      (c .first ∙ ap (countTo (under ls (suc i))) e ∙ sym (coordinate-under (length ls) ls i (omega arith)), last ∙ sym (coordinate-under (length ls) ls (i + 1) l))

@@ -6,8 +6,10 @@ use order::Outcome;
 use order::Refusal;
 ghost use mathlib.Core.Path.{_≡_};
 ghost use Prim.Native.Nat.{_+_, _%_, _≤_, _<_};
+ghost use lib.Dec.{ltb};
 ghost use lib.ListN.{length};
 ghost use Rattle.order.specs.Refusals.{outcomeNumber, numberOf};
+ghost use Rattle.order.specs.Cells.{tally};
 ghost use Rattle.coordinates.specs.Coordinates.{coordinateOf};
 ghost use Rattle.sensing.specs.Sense.{sensed};
 ghost use Rattle.cell_run.specs.Run.{runChecks, levelChecks};
@@ -197,8 +199,7 @@ fn number_of(window: &[u16]) -> u32
     number
 }
 
-// Coordinates i and i + 1 of a window, by one sweep over the cells before both: how many of the cells before a cell stand after it in the order, which
-// are, by the tie rule of reading, those of lower level.
+// Coordinates i and i + 1 of a window, by one sweep over the cells before both: how many of the cells before a cell stand after it in the order.
 fn two_coordinates(window: &[u16], i: usize) -> TwoCoordinates
     requires { ⌜ (i + 1 < length (now window)) × (length (now window) ≤ 12) ⌝ }
     ensures { λ r. ⌜ r .here ≡ coordinateOf (sensed (length (now (window .entry))) (now (window .entry))) i ⌝ }
@@ -207,19 +208,19 @@ fn two_coordinates(window: &[u16], i: usize) -> TwoCoordinates
     let level = window[i];
     let level_next = window[i + 1];
     let mut here: u32 = 0;
-    let mut next: u32 = 0;
+    let mut next: u32 = stands_after(level, level_next);
     let mut j = 0;
     while j < i {
-        if window[j] < level {
-            here += 1;
-        }
-        if window[j] < level_next {
-            next += 1;
-        }
+        here += stands_after(window[j], level);
+        next += stands_after(window[j], level_next);
         j += 1;
     }
-    if level < level_next {
-        next += 1;
-    }
     TwoCoordinates { here, next }
+}
+
+// 1 where a cell stands after a later one in the order, else 0, by their levels: the tie rule of reading.
+fn stands_after(level: u16, later: u16) -> u32
+    ensures { λ r. ⌜ r ≡ tally (ltb level later) ⌝ }
+{
+    if level < later { 1 } else { 0 }
 }
