@@ -236,14 +236,14 @@ fn of_levels(
         numbers,
         scratch,
     };
-    let a = window::windows_of(
+    let a = window::windows_of_levels(
         &levels[..n],
         width,
         step,
         &mut numbers[..room],
         &mut scratch[..places],
     );
-    let b = naive::windows::windows_of(levels, n, width, step, lists);
+    let b = naive::windows::windows_of_levels(levels, n, width, step, lists);
     told(t, a, numbers, scratch, b)
 }
 

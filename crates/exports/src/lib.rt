@@ -56,7 +56,7 @@ pub extern "C" fn rm_windows(
     ensures { λ r. ⌜ now (numbers .exit) ≡ numbersAfter (levelChecks (now (levels .entry))) (now (levels .entry)) width step (now (numbers .entry)) (now (scratch .entry)) ⌝ }
     ensures { λ r. ⌜ now (scratch .exit) ≡ scratchAfter (levelChecks (now (levels .entry))) (now (levels .entry)) width step (now (numbers .entry)) (now (scratch .entry)) ⌝ }
 {
-    let answer = window::windows_of(levels, width, step, numbers, scratch);
+    let answer = window::windows_of_levels(levels, width, step, numbers, scratch);
     if let WindowsAnswer::Refused(refusal) = answer {
         return order::refusal_number(refusal);
     }

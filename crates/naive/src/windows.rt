@@ -179,7 +179,7 @@ pub fn windows(run: Run, width: usize, step: usize, lists: Lists) -> WindowsFoun
 }
 
 // The same for a run that is handed in as a list, the first n of these levels.
-pub fn windows_of(
+pub fn windows_of_levels(
     levels: [u16; 130],
     n: usize,
     width: usize,

@@ -13,5 +13,5 @@ module _ (width step : ℕ) (numbers scratch : List ℕ) where
   pub windows-in-row : (r : Run) → inRow (windowChecks (runChecks r) (ring r) width step numbers scratch) checkRow ≡ true
   windows-in-row r = refl
 
-  pub windows-of-in-row : (ls : List ℕ) → inRow (windowChecks (levelChecks ls) ls width step numbers scratch) checkRow ≡ true
-  windows-of-in-row ls = refl
+  pub windows-of-levels-in-row : (ls : List ℕ) → inRow (windowChecks (levelChecks ls) ls width step numbers scratch) checkRow ≡ true
+  windows-of-levels-in-row ls = refl

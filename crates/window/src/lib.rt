@@ -48,11 +48,11 @@ pub fn windows(
     }
     let len = run.len;
     let levels = run.levels;
-    windows_of(&levels[..len], width, step, numbers, scratch)
+    windows_of_levels(&levels[..len], width, step, numbers, scratch)
 }
 
 // The same for the levels of a run that are handed in without a record.
-pub fn windows_of(
+pub fn windows_of_levels(
     levels: &[u16],
     width: usize,
     step: usize,

@@ -1,4 +1,4 @@
--- `exports::rm_windows` meets its contract: the answer's number, and the two lists as `windows_of` left them.
+-- `exports::rm_windows` meets its contract: the answer's number, and the two lists as `windows_of_levels` left them.
 -- Assumes nothing.
 use borrow.Author.Needs.{needs}
 use mathlib.Core.Path.{_≡_, sym, ap, _∙_}
@@ -14,12 +14,12 @@ number-of e h = ap (λ (t : Told ℕ). t .number) (sym (ap toldWindows e) ∙ h)
 
 returns : tie.Need-returns
 returns c =
-    let answered = c .before .before .before .before .before .before .before .before .windows-of .ensures in
+    let answered = c .before .before .before .before .before .before .before .before .windows-of-levels .ensures in
     (c .refusal-number .ensures ∙ number-of (c .before .before .answer .given .1) (answered .0), answered .1)
 
 returns-2 : tie.Need-returns-2
 returns-2 c =
-    let answered = c .before .before .before .before .before .before .windows-of .ensures in
+    let answered = c .before .before .before .before .before .before .windows-of-levels .ensures in
     (number-of (c .enum-told .given .1) (answered .0), answered .1)
 
 pub rm-windows-spec : {M : Type 1} → statement M

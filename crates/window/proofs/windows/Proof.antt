@@ -35,8 +35,8 @@ within c =
 array-share-prefix-levels : tie.Need-array-share-prefix-levels
 array-share-prefix-levels c = within (c .before)
 
-slice-aggregate-windows-of : tie.Need-slice-aggregate-windows-of
-slice-aggregate-windows-of c =
+slice-aggregate-windows-of-levels : tie.Need-slice-aggregate-windows-of-levels
+slice-aggregate-windows-of-levels c =
     let d = c .before .before in
     let r = d .before .before .before .before .before .args .run in
     sym (length-take-le (r .len) (r .levels) (within d))
@@ -47,7 +47,7 @@ returns-2 c =
     let d = n .before .before .before .before .before in
     let start = d .before .before .before .before .before in
     let run : IsRun (start .args .run) = record { passes = passed d; levels = all start } in
-    run-passed _ _ _ _ _ _ (passed d) (run-passing _ _ _ _ _ _ (levels-pass (start .args .run) run) (n .windows-of .ensures))
+    run-passed _ _ _ _ _ _ (passed d) (run-passing _ _ _ _ _ _ (levels-pass (start .args .run) run) (n .windows-of-levels .ensures))
 
 pub windows-spec : {M : Type 1} → statement M
 windows-spec =
@@ -58,7 +58,7 @@ windows-spec =
     returns
     (λ c. search needs)
     array-share-prefix-levels
-    slice-aggregate-windows-of
+    slice-aggregate-windows-of-levels
     (λ c κs. search needs)
     (λ c. search needs)
     (λ c. search needs)

@@ -1,4 +1,4 @@
--- `window::windows_of` meets its contract: the checks of the levels, and then those of the call.
+-- `window::windows_of_levels` meets its contract: the checks of the levels, and then those of the call.
 -- Assumes nothing.
 use borrow.Author.Needs.{needs}
 use mathlib.Core.Path.{_≡_, sym, ap, _∙_}
@@ -8,8 +8,8 @@ use Rattle.order.proofs.Refusals.{accepted}
 use Rattle.cell_run.specs.Run.{levelChecks}
 use Rattle.window.specs.Steps.{callChecks}
 use Rattle.window.proofs.Answers.{run-refused, run-passed, call-refused, numberable, filled}
-use Rattle.window.proofs.windows_of.Statement.{statement}
-use Rattle.window.proofs.windows_of.Tie as tie
+use Rattle.window.proofs.windows_of_levels.Statement.{statement}
+use Rattle.window.proofs.windows_of_levels.Tie as tie
 
 returns : tie.Need-returns
 returns c =
@@ -46,8 +46,8 @@ returns-3 c =
     let d = n .before .before .before in
     run-passed _ _ _ _ _ _ (held (d .before .before .before)) (filled _ _ _ _ _ (passed d) (n .number-windows .ensures .0) (n .number-windows .ensures .1))
 
-pub windows-of-spec : {M : Type 1} → statement M
-windows-of-spec =
+pub windows-of-levels-spec : {M : Type 1} → statement M
+windows-of-levels-spec =
     tie.close
     (tie.spec
     (λ c κs. search needs)
