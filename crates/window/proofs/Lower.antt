@@ -1,5 +1,5 @@
 -- Coordinate i of a reading's order counts the cells below i + 1 that do not stand above cell i + 1: a comparison of levels finds it, and no order
--- has to be made. The tie rule of reading comes in by `above`, and by the four laws of the first section.
+-- has to be made. The tie rule of reading comes in by `above` and `standsAfter`, which the three laws of the first section know and no other.
 -- Assumes nothing.
 use Prim.Native.Nat.{ℕ, zero, suc, _+_, _-_, _≤_, _<_}
 use mathlib.Core.Path.{_≡_, refl, sym, ap, _∙_}
@@ -19,6 +19,8 @@ use Rattle.group.specs.Levels.{level}
 use Rattle.sensing.specs.Sense.{above, insert, sorted, sensed}
 use Rattle.writing.proofs.Minimal.{Each}
 use Rattle.sensing.proofs.Sensed.{Stands, Sorted, each-count, sensed-sorted, sensed-is-order}
+use Rattle.window.specs.Ring.{windowOrder}
+use Rattle.window.specs.Steps.{standsAfter}
 
 -- ---- the tie rule
 
@@ -31,23 +33,29 @@ module _ (ls : List ℕ) (x d : ℕ) (l : x < d) where
   unfolding above
   stands-below s = lt-leb (level ls d) (level ls x) (⊎-elim (λ t. t) (λ t. absurd (omega arith)) s)
 
-level-next : (ls : List ℕ) (c : ℕ) → level ls (suc c) ≡ getD ls c 0
-unfolding level
-level-next ls c = let e : suc c - 1 ≡ c = omega arith in rw e
+  after-below : standsAfter (level ls x) (level ls d) ≡ tally (not (above ls x d))
+  unfolding above standsAfter
+  after-below =
+      ⊎-elim
+      (λ t. rw (t .1, lt-leb (level ls d) (level ls x) (t .0)))
+      (λ t. rw (t .1, le-leb (level ls d) (level ls x) (t .0)))
+      (lt-cases (level ls x) (level ls d))
+
+-- ---- two cells of a window
 
 -- cell x is below cell d in number, and stands below it too
 unfoldable pub under : List ℕ → ℕ → ℕ → Bool
 under ls d x = ltb x d && not (above ls x d)
 
--- it is so where its level is lower
-pub under-lower : (ls : List ℕ) (i j : ℕ) → j < i → tally (under ls (suc i) (suc j)) ≡ tally (ltb (getD ls j 0) (getD ls i 0))
-unfolding under above
-under-lower ls i j l =
-    rw (level-next ls i, level-next ls j, lt-ltb (suc j) (suc i) (omega arith))
-    (⊎-elim
-    (λ t. rw (t .1, lt-leb (getD ls i 0) (getD ls j 0) (t .0)))
-    (λ t. rw (t .1, le-leb (getD ls i 0) (getD ls j 0) (t .0)))
-    (lt-cases (getD ls j 0) (getD ls i 0)))
+level-next : (ls : List ℕ) (c : ℕ) → level ls (suc c) ≡ getD ls c 0
+unfolding level
+level-next ls c = let e : suc c - 1 ≡ c = omega arith in rw e
+
+-- the levels of the two tell
+under-levels : (ls : List ℕ) (i j : ℕ) → j < i → tally (under ls (suc i) (suc j)) ≡ standsAfter (getD ls j 0) (getD ls i 0)
+unfolding under
+under-levels ls i j l =
+    rw (← level-next ls i, ← level-next ls j, lt-ltb (suc j) (suc i) (omega arith)) (sym (after-below ls (suc j) (suc i) (omega arith)))
 
 -- ---- in a list by falling level
 
@@ -141,9 +149,9 @@ pub record Counting (ls : List ℕ) (i j here next : ℕ) : Type 0 where
   pub first : here ≡ countTo (under ls (suc i)) j
   pub second : next ≡ tally (under ls (suc (i + 1)) (suc i)) + countTo (under ls (suc (i + 1))) j
 
-pub counting-none : (ls : List ℕ) (i : ℕ) {v : ℕ} → v ≡ tally (ltb (getD ls i 0) (getD ls (i + 1) 0)) → Counting ls i 0 0 v
+pub counting-none : (ls : List ℕ) (i : ℕ) {v : ℕ} → v ≡ standsAfter (getD ls i 0) (getD ls (i + 1) 0) → Counting ls i 0 0 v
 unfolding countTo
-counting-none ls i e = record { reached = omega arith; first = refl; second = omega (arith, e, under-lower ls (i + 1) i (omega arith)) }
+counting-none ls i e = record { reached = omega arith; first = refl; second = omega (arith, e, under-levels ls (i + 1) i (omega arith)) }
 
 module _ {ls : List ℕ} {i j here next : ℕ} (c : Counting ls i j here next) where
   counted-low : (here ≤ j) × (next ≤ j + 1)
@@ -153,20 +161,21 @@ module _ {ls : List ℕ} {i j here next : ℕ} (c : Counting ls i j here next) w
   )
 
   -- one more of each
-  pub counted-fits : (b : Bool) {u : ℕ} → u ≡ tally b → (here + u ≤ i + 1) × (next + u ≤ i + 2)
-  counted-fits b e = let low = counted-low in (omega (arith, low, c .reached, e, tally-le b), omega (arith, low, c .reached, e, tally-le b))
+  pub counted-fits : (a b : ℕ) {u : ℕ} → u ≡ standsAfter a b → (here + u ≤ i + 1) × (next + u ≤ i + 2)
+  unfolding standsAfter
+  counted-fits a b e = let low = counted-low in (omega (arith, low, c .reached, e, tally-le (ltb a b)), omega (arith, low, c .reached, e, tally-le (ltb a b)))
 
-  pub counting-more : {u v : ℕ} → j < i → u ≡ tally (ltb (getD ls j 0) (getD ls i 0)) → v ≡ tally (ltb (getD ls j 0) (getD ls (i + 1) 0))
+  pub counting-more : {u v : ℕ} → j < i → u ≡ standsAfter (getD ls j 0) (getD ls i 0) → v ≡ standsAfter (getD ls j 0) (getD ls (i + 1) 0)
       → Counting ls i (j + 1) (here + u) (next + v)
   unfolding countTo
   counting-more l e f =
       record {
         reached = omega arith;
-        first = rw (add-one j) (omega (arith, c .first, e, under-lower ls i j l));
-        second = rw (add-one j) (omega (arith, c .second, f, under-lower ls (i + 1) j (omega arith)));
+        first = rw (add-one j) (omega (arith, c .first, e, under-levels ls i j l));
+        second = rw (add-one j) (omega (arith, c .second, f, under-levels ls (i + 1) j (omega arith)));
       }
 
-  pub counting-done : i ≤ j → i + 1 < length ls → (here ≡ coordinateOf (sensed (length ls) ls) i) × (next ≡ coordinateOf (sensed (length ls) ls) (i + 1))
+  pub counting-done : i ≤ j → i + 1 < length ls → (here ≡ coordinateOf (windowOrder ls) i) × (next ≡ coordinateOf (windowOrder ls) (i + 1))
   counting-done h l =
       let e : j ≡ i = omega (arith, c .reached) in
       let last : next ≡ countTo (under ls (suc (i + 1))) (i + 1) = omega (arith, c .second, ap (countTo (under ls (suc (i + 1)))) e, count-one (under ls (suc (i + 1))) i) in

@@ -10,7 +10,7 @@ use lib.ListN.{length, getD, set, take, drop, length-append, length-drop}
 use lib.Seq.{take-at, drop-at, drop-drop, ext-getD, getD-take, getD-drop, length-take-le, take-all}
 use Rattle.order.specs.Cells.{tabulate}
 use Rattle.order.proofs.Tabulate.{length-tabulate, getD-tabulate}
-use Rattle.window.specs.Ring.{windowNumber, windowAt, windowNumbers}
+use Rattle.window.specs.Ring.{windowNumber, windowAt, numberAt, windowNumbers}
 use Rattle.window.specs.Calls.{scratchLevels, putFirst}
 use Rattle.window.specs.Steps.{Numberable, KeptPast}
 use Rattle.window.proofs.Placing.{grown, grown-none, grown-length, grown-more, grown-whole, levelOn}
@@ -23,7 +23,7 @@ window-length ring width p = length-tabulate width (levelOn ring p)
 
 pub numbers-length : (ring : List ℕ) (width step : ℕ) → length (windowNumbers ring width step) ≡ length ring / step
 unfolding windowNumbers
-numbers-length ring width step = length-tabulate (length ring / step) (λ k. windowNumber (windowAt ring width (k * step)))
+numbers-length ring width step = length-tabulate (length ring / step) (numberAt ring width step)
 
 -- a window that does not go round the end
 pub window-inside : (ring : List ℕ) (width p : ℕ) → p + width ≤ length ring → windowAt ring width p ≡ take (p + width - p) (drop p ring)
@@ -61,14 +61,10 @@ module _ (ring : List ℕ) (width p : ℕ) (old : List ℕ) {new : List ℕ} (e 
 
 -- ---- the loop
 
--- the number of window k, from 0
-abbrev numberAt : List ℕ → ℕ → ℕ → ℕ → ℕ
-numberAt ring width step k = windowNumber (windowAt ring width (k * step))
-
 pub record Numbering (ring : List ℕ) (width step : ℕ) (numbers₀ scratch₀ numbers scratch : List ℕ) (start k : ℕ) : Type 0 where
   pub needs : Numberable ring width step numbers₀ scratch₀
   pub turn : k ≤ length ring / step
-  pub list : numbers ≡ grown (λ k. windowNumber (windowAt ring width (k * step))) k numbers₀
+  pub list : numbers ≡ grown (numberAt ring width step) k numbers₀
   pub at : start ≡ k * step
   pub kept : drop width scratch ≡ drop width scratch₀
   pub long : length scratch ≡ length scratch₀

@@ -10,7 +10,7 @@ use lib.ListN.{length, getD, set, drop, length-append, length-drop}
 use lib.Seq.{drop-cons, set-at, append-snoc, ext-getD}
 use Rattle.order.specs.Cells.{tabulate}
 use Rattle.order.proofs.Tabulate.{length-tabulate, getD-tabulate, tabulate-add}
-use Rattle.window.specs.Ring.{windowAt}
+use Rattle.window.specs.Ring.{levelRound, windowAt}
 use Rattle.window.specs.Calls.{putFirst}
 
 -- ---- a list that grows at its front
@@ -56,9 +56,9 @@ levels-whole ring old j e =
 
 -- ---- round the ring
 
--- the level of the cell that is j cells past cell p + 1
+-- the level of the cell that comes j cells after cell p + 1
 abbrev pub levelOn : List ℕ → ℕ → ℕ → ℕ
-levelOn ring p j = getD ring ((p + j) % length ring) 0
+levelOn ring p j = levelRound ring (p + j)
 
 pub record Placing (ring : List ℕ) (p : ℕ) (old out : List ℕ) (at j : ℕ) : Type 0 where
   pub first : 0 < length ring

@@ -9,20 +9,19 @@ use lib.ListN.{length}
 use Rattle.order.proofs.Cells.{IsOrder}
 use Rattle.coordinates.specs.Coordinates.{coordinateOf}
 use Rattle.coordinates.proofs.RoundTrip.{coordinate-le}
-use Rattle.sensing.specs.Sense.{sensed}
 use Rattle.sensing.proofs.Sensed.{sensed-is-order}
-use Rattle.window.specs.Ring.{factorial, factorialSum, orderNumber, windowNumber}
+use Rattle.window.specs.Ring.{factorial, factorialSum, orderNumber, windowOrder, windowNumber}
 use Rattle.window.proofs.Factorials.{Digits, factorial-pos, factorial-grows, sum-below}
 
 -- the coordinates of a window
 abbrev pub coordinateIn : List ℕ → ℕ → ℕ
-coordinateIn ls = coordinateOf (sensed (length ls) ls)
+coordinateIn ls = coordinateOf (windowOrder ls)
 
 pub order-digits : (n : ℕ) (xs : List ℕ) → IsOrder n xs → (m : ℕ) → m ≤ n → Digits (coordinateOf xs) m
 order-digits n xs o m l i h = coordinate-le n xs o i (omega arith)
 
 coordinate-low : (ls : List ℕ) (m : ℕ) → m ≤ length ls → Digits (coordinateIn ls) m
-coordinate-low ls = order-digits (length ls) (sensed (length ls) ls) (sensed-is-order (length ls) ls)
+coordinate-low ls = order-digits (length ls) (windowOrder ls) (sensed-is-order (length ls) ls)
 
 -- the coordinates from i on are in the number, which lacks the factor i factorial; those before are still to come
 pub record Summing (ls : List ℕ) (number i : ℕ) : Type 0 where

@@ -27,7 +27,7 @@ use Rattle.window.specs.declared.WindowsAnswer.{WindowsAnswer}
 use Rattle.window.specs.declared.WindowsAnswer.the-variants.{Refused, Filled}
 use Rattle.window.specs.Ring.{windowNumbers}
 
--- ---- the checks
+-- ---- a run, its windows and the lent lists
 
 abbrev pub ring : Run → List ℕ
 ring r = take (r .len) (r .levels)
@@ -44,6 +44,15 @@ scratchLevels ls width step = ls
 abbrev pub hasRoom : List ℕ → List ℕ → Bool
 hasRoom new old = leb (length new) (length old)
 
+abbrev pub toldWindows : WindowsAnswer → Told ℕ
+toldWindows (Refused refusal) = record { number = refusalNumber refusal; value = 0 }
+toldWindows (Filled count) = record { number = 0; value = count }
+
+abbrev pub putFirst : List ℕ → List ℕ → List ℕ
+putFirst new old = new ++ drop (length new) old
+
+-- ---- a call
+
 module _ (ofRun : List (Bool × Refusal)) (ls : List ℕ) (width step : ℕ) (numbers scratch : List ℕ) where
   abbrev pub windowChecks : List (Bool × Refusal)
   windowChecks =
@@ -54,23 +63,11 @@ module _ (ofRun : List (Bool × Refusal)) (ls : List ℕ) (width step : ℕ) (nu
       ∷ (hasRoom (scratchLevels ls width step) scratch, RoomShort)
       ∷ []
 
--- ---- the answer
-
-abbrev pub toldWindows : WindowsAnswer → Told ℕ
-toldWindows (Refused refusal) = record { number = refusalNumber refusal; value = 0 }
-toldWindows (Filled count) = record { number = 0; value = count }
-
-abbrev pub putFirst : List ℕ → List ℕ → List ℕ
-putFirst new old = new ++ drop (length new) old
-
-module _ (ofRun : List (Bool × Refusal)) (ls : List ℕ) (width step : ℕ) (numbers scratch : List ℕ) where
   unfoldable pub windowsOf : Told ℕ
-  windowsOf = answer (windowChecks ofRun ls width step numbers scratch) (length (windowNumbers ls width step)) 0
-
-  -- ---- the lists
+  windowsOf = answer windowChecks (length (windowNumbers ls width step)) 0
 
   unfoldable pub numbersAfter : List ℕ
-  numbersAfter = ifDone (numberOf (windowChecks ofRun ls width step numbers scratch)) (putFirst (windowNumbers ls width step) numbers) numbers
+  numbersAfter = ifDone (numberOf windowChecks) (putFirst (windowNumbers ls width step) numbers) numbers
 
   unfoldable pub scratchAfter : List ℕ
-  scratchAfter = ifDone (numberOf (windowChecks ofRun ls width step numbers scratch)) (putFirst (scratchLevels ls width step) scratch) scratch
+  scratchAfter = ifDone (numberOf windowChecks) (putFirst (scratchLevels ls width step) scratch) scratch

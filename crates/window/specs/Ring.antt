@@ -3,9 +3,11 @@
 --   factorial n                   1 times 2 times .. times n; 1 where n is 0
 --   factorialSum x m              the sum of x i times i factorial, for i from 1 to m
 --   orderNumber n xs              the number of an order of n cells: the sum of coordinate i times i factorial
---   windowNumber ls               the number of a window whose cells, numbered from 1, have the levels ls: that of the order in which a reading
---                                 finds them
+--   windowOrder ls                the order in which a reading finds the cells of a window, numbered from 1, that have the levels ls
+--   windowNumber ls               the number of that window: of that order
+--   levelRound ring i             the level of the cell that comes i cells after cell 1, round the ring
 --   windowAt ring width p         the levels of the window of so many cells that starts with cell p + 1 of the ring, in ring order
+--   numberAt ring width step k    the number of the window that starts k steps after cell 1
 --   windowNumbers ring width step    the numbers of the windows that start with cells 1, 1 + step and so on, once round the ring
 use Prim.Native.Nat.{ℕ, zero, suc, _+_, _-_, _*_, _/_, _%_}
 use mathlib.Core.List.{List}
@@ -25,11 +27,20 @@ factorialSum x (suc i) = factorialSum x i + x (suc i) * factorial (suc i)
 unfoldable pub orderNumber : ℕ → List ℕ → ℕ
 orderNumber n xs = factorialSum (coordinateOf xs) (n - 1)
 
+abbrev pub windowOrder : List ℕ → List ℕ
+windowOrder ls = sensed (length ls) ls
+
 unfoldable pub windowNumber : List ℕ → ℕ
-windowNumber ls = orderNumber (length ls) (sensed (length ls) ls)
+windowNumber ls = orderNumber (length ls) (windowOrder ls)
+
+abbrev pub levelRound : List ℕ → ℕ → ℕ
+levelRound ring i = getD ring (i % length ring) 0
 
 unfoldable pub windowAt : List ℕ → ℕ → ℕ → List ℕ
-windowAt ring width p = tabulate width (λ j. getD ring ((p + j) % length ring) 0)
+windowAt ring width p = tabulate width (λ j. levelRound ring (p + j))
+
+abbrev pub numberAt : List ℕ → ℕ → ℕ → ℕ → ℕ
+numberAt ring width step k = windowNumber (windowAt ring width (k * step))
 
 unfoldable pub windowNumbers : List ℕ → ℕ → ℕ → List ℕ
-windowNumbers ring width step = tabulate (length ring / step) (λ k. windowNumber (windowAt ring width (k * step)))
+windowNumbers ring width step = tabulate (length ring / step) (numberAt ring width step)

@@ -1,5 +1,6 @@
 -- What private contracts say, ask and promise. No public contract rests on this.
 --
+--   standsAfter   1 where a cell stands after a later cell of its window, by the levels of the two, else 0: the tie rule of reading
 --   callChecks    the checks of width, step and lists by their numbers: of the ring's cells, and of the lists' places
 --   Numberable    what numbering the windows needs of a ring, a width, a step and the two lists
 --   KeptPast      a list that holds what it held from a place on, and is as long
@@ -7,11 +8,15 @@ use Prim.Native.Nat.{ℕ, _/_, _≤_}
 use mathlib.Core.Path.{_≡_}
 use mathlib.Core.Bool.{Bool}
 use mathlib.Core.List.{List, [], _∷_}
-use lib.Dec.{leb}
+use lib.Dec.{leb, ltb}
 use lib.ListN.{length, drop}
 use Rattle.order.specs.declared.Refusal.{Refusal}
 use Rattle.order.specs.declared.Refusal.the-variants.{RunLimit, RoomShort}
+use Rattle.order.specs.Cells.{tally}
 use Rattle.window.specs.Calls.{isWidth, isStep}
+
+unfoldable pub standsAfter : ℕ → ℕ → ℕ
+standsAfter level later = tally (ltb level later)
 
 abbrev pub callChecks : ℕ → ℕ → ℕ → ℕ → ℕ → List (Bool × Refusal)
 callChecks n width step numbers scratch =

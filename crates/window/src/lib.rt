@@ -6,16 +6,13 @@ use order::Outcome;
 use order::Refusal;
 ghost use mathlib.Core.Path.{_≡_};
 ghost use Prim.Native.Nat.{_+_, _%_, _≤_, _<_};
-ghost use lib.Dec.{ltb};
 ghost use lib.ListN.{length};
 ghost use Rattle.order.specs.Refusals.{outcomeNumber, numberOf};
-ghost use Rattle.order.specs.Cells.{tally};
 ghost use Rattle.coordinates.specs.Coordinates.{coordinateOf};
-ghost use Rattle.sensing.specs.Sense.{sensed};
 ghost use Rattle.cell_run.specs.Run.{runChecks, levelChecks};
-ghost use Rattle.window.specs.Ring.{windowNumber, windowAt, windowNumbers};
+ghost use Rattle.window.specs.Ring.{windowOrder, windowNumber, windowAt, windowNumbers};
 ghost use Rattle.window.specs.Calls.{ring, isWidth, isStep, scratchLevels, putFirst, toldWindows, windowsOf, numbersAfter, scratchAfter};
-ghost use Rattle.window.specs.Steps.{callChecks, Numberable, KeptPast};
+ghost use Rattle.window.specs.Steps.{standsAfter, callChecks, Numberable, KeptPast};
 
 // How many windows were numbered, or why none was.
 pub enum WindowsAnswer {
@@ -202,8 +199,8 @@ fn number_of(window: &[u16]) -> u32
 // Coordinates i and i + 1 of a window, by one sweep over the cells before both: how many of the cells before a cell stand after it in the order.
 fn two_coordinates(window: &[u16], i: usize) -> TwoCoordinates
     requires { ⌜ (i + 1 < length (now window)) × (length (now window) ≤ 12) ⌝ }
-    ensures { λ r. ⌜ r .here ≡ coordinateOf (sensed (length (now (window .entry))) (now (window .entry))) i ⌝ }
-    ensures { λ r. ⌜ r .next ≡ coordinateOf (sensed (length (now (window .entry))) (now (window .entry))) (i + 1) ⌝ }
+    ensures { λ r. ⌜ r .here ≡ coordinateOf (windowOrder (now (window .entry))) i ⌝ }
+    ensures { λ r. ⌜ r .next ≡ coordinateOf (windowOrder (now (window .entry))) (i + 1) ⌝ }
 {
     let level = window[i];
     let level_next = window[i + 1];
@@ -220,7 +217,7 @@ fn two_coordinates(window: &[u16], i: usize) -> TwoCoordinates
 
 // 1 where a cell stands after a later one in the order, else 0, by their levels: the tie rule of reading.
 fn stands_after(level: u16, later: u16) -> u32
-    ensures { λ r. ⌜ r ≡ tally (ltb level later) ⌝ }
+    ensures { λ r. ⌜ r ≡ standsAfter level later ⌝ }
 {
     if level < later { 1 } else { 0 }
 }

@@ -22,7 +22,7 @@ use Rattle.writing.specs.PushUp.{singles, Shows}
 use Rattle.writing.proofs.Orders.{Falling, falling-shows}
 use Rattle.sensing.specs.Sense.{sensed}
 use Rattle.sensing.proofs.Sensed.{sensed-order, sensed-back}
-use Rattle.window.specs.Ring.{factorial, factorialSum, orderNumber, windowNumber, windowAt, windowNumbers}
+use Rattle.window.specs.Ring.{factorial, factorialSum, orderNumber, windowOrder, windowNumber, windowAt, numberAt, windowNumbers}
 use Rattle.window.proofs.Factorials.{sum-below}
 use Rattle.window.proofs.Summing.{order-digits}
 use Rattle.window.proofs.Numbering.{window-length, window-ring}
@@ -82,14 +82,14 @@ orders-numbered n = (
 module _ (ls : List ℕ) where
   pub number-below : windowNumber ls < factorial (length ls)
   unfolding windowNumber
-  number-below = orders-numbered (length ls) .0 (sensed (length ls) ls) (sensed-order (length ls) ls) .0
+  number-below = orders-numbered (length ls) .0 (windowOrder ls) (sensed-order (length ls) ls) .0
 
   -- the order in which a reading finds a window's cells is the one that has the window's number
-  pub number-order : orderNumbered (length ls) (windowNumber ls) ≡ sensed (length ls) ls
+  pub number-order : orderNumbered (length ls) (windowNumber ls) ≡ windowOrder ls
   unfolding windowNumber
-  number-order = orders-numbered (length ls) .0 (sensed (length ls) ls) (sensed-order (length ls) ls) .1
+  number-order = orders-numbered (length ls) .0 (windowOrder ls) (sensed-order (length ls) ls) .1
 
-pub number-by-order : (ls ms : List ℕ) → length ls ≡ length ms → (windowNumber ls ≡ windowNumber ms) ↔ (sensed (length ls) ls ≡ sensed (length ms) ms)
+pub number-by-order : (ls ms : List ℕ) → length ls ≡ length ms → (windowNumber ls ≡ windowNumber ms) ↔ (windowOrder ls ≡ windowOrder ms)
 unfolding windowNumber
 number-by-order ls ms l =
     ((λ e. sym (number-order ls) ∙ ap₂ orderNumbered l e ∙ number-order ms), (λ e. ap₂ orderNumber l e))
@@ -98,7 +98,7 @@ number-by-order ls ms l =
 pub numbers-below : (ring : List ℕ) (width step k : ℕ) → k < length ring / step → getD (windowNumbers ring width step) k 0 < factorial width
 unfolding windowNumbers
 numbers-below ring width step k l =
-    let e = getD-tabulate {A = ℕ} (length ring / step) (λ j. windowNumber (windowAt ring width (j * step))) k 0 l in
+    let e = getD-tabulate {A = ℕ} (length ring / step) (numberAt ring width step) k 0 l in
     rw e (rw (window-length ring width (k * step)) at (number-below (windowAt ring width (k * step))))
 
 -- ---- every order, and so every number
@@ -150,4 +150,4 @@ module _ (n k : ℕ) (l : k < factorial n) where
       let e = levels-length n (orderNumbered n k) in
       let one : length ls / n ≡ 1 = ap (λ (m : ℕ). m / n) e ∙ div-self p in
       let whole : windowAt ls n (0 * n) ≡ ls = ap₂ (windowAt ls) (sym e) (zero-mul n) ∙ window-ring ls in
-      ap (λ (m : ℕ). tabulate m (λ j. windowNumber (windowAt ls n (j * n)))) one ∙ ap (λ (j : ℕ). j ∷ []) (ap windowNumber whole ∙ number-had)
+      ap (λ (m : ℕ). tabulate m (numberAt ls n n)) one ∙ ap (λ (j : ℕ). j ∷ []) (ap windowNumber whole ∙ number-had)

@@ -9,7 +9,7 @@ use lib.ListN.{length, getD}
 use lib.Seq.{take-at, drop-at, ext-getD}
 use Rattle.order.specs.Cells.{tabulate}
 use Rattle.order.proofs.Tabulate.{length-tabulate, getD-tabulate, tabulate-ext, tabulate-add}
-use Rattle.window.specs.Ring.{windowNumber, windowAt, windowNumbers}
+use Rattle.window.specs.Ring.{windowNumber, levelRound, windowAt, numberAt, windowNumbers}
 use Rattle.window_laws.specs.Turn.{turned}
 
 -- ---- a list that is turned
@@ -34,37 +34,33 @@ turned-tabulate n k f l r =
 
 -- ---- a ring that is turned
 
--- the level of the cell i places past cell 1, round the ring
-abbrev levelAt : List ℕ → ℕ → ℕ
-levelAt ring i = getD ring (i % length ring) 0
-
-ring-tabulate : (ring : List ℕ) → ring ≡ tabulate (length ring) (levelAt ring)
+ring-tabulate : (ring : List ℕ) → ring ≡ tabulate (length ring) (levelRound ring)
 ring-tabulate ring =
     let n = length ring in
-    ext-getD 0 ring (tabulate n (levelAt ring)) (sym (length-tabulate n (levelAt ring)))
-    (λ i l. ap (λ (t : ℕ). getD ring t 0) (sym (mod-eq-of-lt l)) ∙ sym (getD-tabulate n (levelAt ring) i 0 l))
+    ext-getD 0 ring (tabulate n (levelRound ring)) (sym (length-tabulate n (levelRound ring)))
+    (λ i l. ap (λ (t : ℕ). getD ring t 0) (sym (mod-eq-of-lt l)) ∙ sym (getD-tabulate n (levelRound ring) i 0 l))
 
 module _ (ring : List ℕ) (s : ℕ) (l : s ≤ length ring) where
-  turned-ring : turned s ring ≡ tabulate (length ring) (λ i. levelAt ring (s + i))
+  turned-ring : turned s ring ≡ tabulate (length ring) (λ i. levelRound ring (s + i))
   turned-ring =
       ap (turned s) (ring-tabulate ring)
-      ∙ turned-tabulate (length ring) s (levelAt ring) l (λ i. ap (λ (t : ℕ). getD ring t 0) (add-mod-left (length ring) i))
+      ∙ turned-tabulate (length ring) s (levelRound ring) l (λ i. ap (λ (t : ℕ). getD ring t 0) (add-mod-left (length ring) i))
 
   turned-length : length (turned s ring) ≡ length ring
   turned-length = ap length turned-ring ∙ length-tabulate (length ring) _
 
-  turned-level : 0 < length ring → (i : ℕ) → levelAt (turned s ring) i ≡ levelAt ring (s + i)
+  turned-level : 0 < length ring → (i : ℕ) → levelRound (turned s ring) i ≡ levelRound ring (s + i)
   turned-level p i =
       let n = length ring in
       ap₂ (λ (xs : List ℕ) (t : ℕ). getD xs (i % t) 0) turned-ring turned-length
-      ∙ getD-tabulate n (λ i. levelAt ring (s + i)) (i % n) 0 (mod-lt i p)
+      ∙ getD-tabulate n (λ i. levelRound ring (s + i)) (i % n) 0 (mod-lt i p)
       ∙ ap (λ (t : ℕ). getD ring t 0) (add-mod-mod s i n)
 
   -- a window of the turned ring is the window of the ring that starts s cells later
   turned-window : 0 < length ring → (width p : ℕ) → windowAt (turned s ring) width p ≡ windowAt ring width (s + p)
   unfolding windowAt
   turned-window h width p =
-      tabulate-ext width _ _ (λ j l. turned-level h (p + j) ∙ ap (levelAt ring) (sym (add-assoc s p j)))
+      tabulate-ext width _ _ (λ j l. turned-level h (p + j) ∙ ap (levelRound ring) (sym (add-assoc s p j)))
 
 -- the ring comes back to the same window
 window-round : (ring : List ℕ) (width p : ℕ) → windowAt ring width (length ring + p) ≡ windowAt ring width p
@@ -81,26 +77,22 @@ module _ (ring : List ℕ) (width step : ℕ) (forward : 1 ≤ step) (inside : s
   pub once-round : length ring / step * step ≡ length ring
   once-round = omega (arith, div-add-mod' (length ring) step, divides)
 
-  -- the number of the window k steps on
-  numberAt : ℕ → ℕ
-  numberAt k = windowNumber (windowAt ring width (k * step))
-
-  number-round : (i : ℕ) → numberAt (count + i) ≡ numberAt i
-  unfolding numberAt count
+  number-round : (i : ℕ) → numberAt ring width step (count + i) ≡ numberAt ring width step i
+  unfolding count
   number-round i =
       let e : (count + i) * step ≡ length ring + i * step = omega (arith, add-mul count i step, once-round) in
       ap (λ (p : ℕ). windowNumber (windowAt ring width p)) e ∙ ap windowNumber (window-round ring width (i * step))
 
   pub numbers-turned : (k : ℕ) → k ≤ length ring / step → windowNumbers (turned (k * step) ring) width step ≡ turned k (windowNumbers ring width step)
-  unfolding windowNumbers numberAt count
+  unfolding windowNumbers count
   numbers-turned k l =
       let s = k * step in
       let h : s ≤ length ring = omega (arith, mul-le-mul-right step l, once-round) in
       let later : (i : ℕ) → windowAt (turned s ring) width (i * step) ≡ windowAt ring width ((k + i) * step)
       = λ i. turned-window ring s h (omega arith) width (i * step) ∙ ap (windowAt ring width) (sym (add-mul k i step)) in
-      ap (λ (t : ℕ). tabulate (t / step) (λ i. windowNumber (windowAt (turned s ring) width (i * step)))) (turned-length ring s h)
+      ap (λ (t : ℕ). tabulate (t / step) (numberAt (turned s ring) width step)) (turned-length ring s h)
       ∙ tabulate-ext count _ _ (λ i l. ap windowNumber (later i))
-      ∙ sym (turned-tabulate count k numberAt l number-round)
+      ∙ sym (turned-tabulate count k (numberAt ring width step) l number-round)
 
   pub numbers-turned-once : windowNumbers (turned step ring) width step ≡ turned 1 (windowNumbers ring width step)
   numbers-turned-once =

@@ -3,7 +3,6 @@
 use borrow.Author.Needs.{needs}
 use Prim.Native.Nat.{_+_, _-_}
 use native.Mathlib.Omega.{arith}
-use lib.Dec.{ltb}
 use lib.ListN.{getD}
 use Rattle.window.proofs.Lower.{Counting, counting-none, counted-fits, counting-more, counting-done}
 use Rattle.window.proofs.two_coordinates.Statement.{statement}
@@ -23,14 +22,14 @@ add-here c =
     let at = c .before .before .before in
     let start = at .before .before .before .before .before in
     let ls = start .args .window .now in
-    omega (arith, counted-fits (at .loop .inv) (ltb (getD ls (at .loop .j) 0) (getD ls (start .args .i) 0)) (c .stands-after2 .ensures) .0, start .pre)
+    omega (arith, counted-fits (at .loop .inv) (getD ls (at .loop .j) 0) (getD ls (start .args .i) 0) (c .stands-after2 .ensures) .0, start .pre)
 
 add-next : tie.Need-add-next Inv-loop μ-loop
 add-next c =
     let at = c .before .before .before .before .before in
     let start = at .before .before .before .before .before in
     let ls = start .args .window .now in
-    omega (arith, counted-fits (at .loop .inv) (ltb (getD ls (at .loop .j) 0) (getD ls (start .args .i + 1) 0)) (c .stands-after3 .ensures) .1, start .pre)
+    omega (arith, counted-fits (at .loop .inv) (getD ls (at .loop .j) 0) (getD ls (start .args .i + 1) 0) (c .stands-after3 .ensures) .1, start .pre)
 
 loop-again : tie.Need-loop-again Inv-loop μ-loop
 loop-again c =
