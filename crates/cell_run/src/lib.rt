@@ -1,4 +1,4 @@
-// Runs of 3 to 128 cells (document 02, request (a)): the record, and the calls that open a run and raise its cells. A run goes in by value and comes
+// Runs of 3 to 128 cells (document 02, request (a)): the record, the limits of a run and its windows, and the calls that open a run and raise its cells. A run goes in by value and comes
 // back by value. Every public function takes any value, and one equation with a definition of specs/ fixes its answer. Proved besides: a run
 // stays a run (proofs/Runs).
 use order::Cell;
@@ -8,7 +8,7 @@ ghost use mathlib.Core.Path.{_≡_};
 ghost use mathlib.Core.Bool.{true};
 ghost use Rattle.order.specs.Refusals.{outcomeNumber, numberOf};
 ghost use Rattle.group.specs.Record.{allAtMost, isRow};
-ghost use Rattle.cell_run.specs.Run.{isLength, runChecks, levelChecks, openedRun, toldRun, openRunOf, cellChecks, isRaise, raiseCellOf};
+ghost use Rattle.cell_run.specs.Run.{isLength, runChecks, levelChecks, isWidth, isStep, limitChecks, openedRun, toldRun, openRunOf, cellChecks, isRaise, raiseCellOf};
 
 const MAX_LEVEL: u16 = 4095;
 
@@ -82,6 +82,43 @@ fn all_at_most(levels: &[u16], highest: u16) -> bool
         i += 1;
     }
     over == 0
+}
+
+// The same for the width and the step of windows along a run of n cells.
+pub fn check_windows(n: usize, width: usize, step: usize) -> Outcome
+    ensures { λ r. ⌜ outcomeNumber r ≡ numberOf (limitChecks n width step) ⌝ }
+{
+    if !is_width(n, width) {
+        return Outcome::Refused(Refusal::RunLimit);
+    }
+    if !is_step(n, width, step) {
+        return Outcome::Refused(Refusal::RunLimit);
+    }
+    Outcome::Done
+}
+
+// Whether a window of a run of n cells can be so wide.
+fn is_width(n: usize, width: usize) -> bool
+    ensures { λ r. ⌜ r ≡ isWidth n width ⌝ }
+{
+    if order::is_size(width) {
+        width <= n
+    } else {
+        false
+    }
+}
+
+// Whether the windows of a run of n cells can be a step apart.
+fn is_step(n: usize, width: usize, step: usize) -> bool
+    ensures { λ r. ⌜ r ≡ isStep n width step ⌝ }
+{
+    if step < 1 {
+        return false;
+    }
+    if width < step {
+        return false;
+    }
+    n % step == 0
 }
 
 // A run of len cells, all at 0.

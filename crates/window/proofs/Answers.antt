@@ -1,20 +1,21 @@
 -- How the answer to a call for windows, and the two lent lists after it, follow from the checks.
 -- Assumes nothing.
-use Prim.Native.Nat.{ℕ, _/_, _%_, _≤_}
+use Prim.Native.Nat.{ℕ, _/_}
 use mathlib.Core.Path.{_≡_, sym, ap, _∙_}
-use mathlib.Core.Bool.{Bool, true, _&&_}
+use mathlib.Core.Bool.{Bool}
 use mathlib.Core.List.{List, []}
 use native.Mathlib.Omega.{arith}
-use lib.Dec.{leb, eqb}
+use lib.Dec.{leb}
 use lib.ListN.{length}
 use borrow.Author.Tests.{leb-true}
 use Rattle.order.specs.declared.Refusal.{Refusal}
-use Rattle.order.specs.declared.Refusal.the-variants.{RunLimit, RoomShort}
-use Rattle.order.specs.Refusals.{Told, refusalNumber, numberOf, ifDone, answer, isSize}
-use Rattle.order.proofs.Cells.{both}
-use Rattle.order.proofs.Refusals.{told-done, told-refused, refused-zeros, refused-first, later-decide, check-held, size-true}
+use Rattle.order.specs.declared.Refusal.the-variants.{RoomShort}
+use Rattle.order.specs.Refusals.{Told, refusalNumber, numberOf, ifDone, answer}
+use Rattle.order.proofs.Refusals.{told-done, told-refused, refused-zeros, refused-first, later-decide, check-held, all-held}
+use Rattle.cell_run.specs.Run.{limitChecks}
+use Rattle.cell_run.proofs.Checks.{limits-held}
 use Rattle.window.specs.Ring.{windowNumbers}
-use Rattle.window.specs.Calls.{scratchLevels, isWidth, isStep, windowChecks, putFirst, windowsOf, numbersAfter, scratchAfter}
+use Rattle.window.specs.Calls.{scratchLevels, windowChecks, putFirst, windowsOf, numbersAfter, scratchAfter}
 use Rattle.window.specs.Steps.{callChecks, Numberable}
 use Rattle.window.proofs.Numbering.{numbers-length}
 
@@ -54,10 +55,6 @@ module _ (ofRun : List (Bool × Refusal)) (ls : List ℕ) (width step : ℕ) (nu
     unfolding windowsOf numbersAfter scratchAfter answer
     run-passing t = (rw same at (t .0), (rw same at (t .1 .0), rw same at (t .1 .1)))
 
--- a step that passes is at least 1
-pub step-forward : (n width step : ℕ) → isStep n width step ≡ true → 1 ≤ step
-step-forward n width step s = leb-true 1 step (both (leb 1 step) (leb step width) (both (leb 1 step && leb step width) (eqb (n % step) 0) s .0) .0)
-
 module _ (ls : List ℕ) (width step : ℕ) (numbers scratch : List ℕ) where
   -- the checks by their numbers are those of the call
   by-numbers : callChecks (length ls) width step (length numbers) (length scratch) ≡ windowChecks [] ls width step numbers scratch
@@ -71,18 +68,15 @@ module _ (ls : List ℕ) (width step : ℕ) (numbers scratch : List ℕ) where
   module _ (d : numberOf (callChecks (length ls) width step (length numbers) (length scratch)) ≡ 0) where
     pub numberable : Numberable ls width step numbers scratch
     numberable =
-        let w = check-held (isWidth (length ls) width) RunLimit _ d in
-        let s = check-held (isStep (length ls) width step) RunLimit _ (w .1) in
-        let c = check-held (leb (length ls / step) (length numbers)) RoomShort _ (s .1) in
+        let w = all-held _ (limitChecks (length ls) width step) d in
+        let limits = limits-held (length ls) width step (w .0) in
+        let c = check-held (leb (length ls / step) (length numbers)) RoomShort _ (w .1) in
         let r = check-held (leb (length ls) (length scratch)) RoomShort [] (c .1) in
-        let t = both (isSize width) (leb width (length ls)) (w .0) in
-        let size = size-true width (t .0) in
-        let inside = leb-true width (length ls) (t .1) in
         record {
-          first = omega (arith, size .0, inside);
-          wide = size .1;
-          inside = inside;
-          forward = step-forward (length ls) width step (s .0);
+          first = omega (arith, limits .wide, limits .inside);
+          wide = limits .narrow;
+          inside = limits .inside;
+          forward = limits .forward;
           count = leb-true (length ls / step) (length numbers) (c .0);
           room = leb-true (length ls) (length scratch) (r .0);
         }

@@ -1,28 +1,27 @@
 -- Document 02, request (a): what a call for the numbers of a run's windows answers, and what it leaves in the lists that it is lent.
 --
 --   ring r               the levels of the run's cells, which stand in a ring
---   isWidth n w          a window of a run of n cells has 3 to 12 cells, not above n
---   isStep n w s         a step is from 1 up to the width, and divides n
 --   scratchLevels ls w s what stands first in the scratch after the call: the run's levels, whatever the width and the step
 --   hasRoom new old      a lent list is long enough for what goes into it
 --   toldWindows a        what the answer says: its number, and how many numbers were filled in
 --   putFirst new old     a lent list with new elements first, and the later places untouched
 --
 -- Of a call: ofRun are the checks of the run as it is handed in (`runChecks`, `levelChecks` of cell_run), ls the levels of its ring,
--- width and step the numbers handed in, numbers and scratch the lists that are lent.
+-- width and step the numbers handed in (`limitChecks` of cell_run), numbers and scratch the lists that are lent.
 --
 --   windowChecks         its checks: those of the run, then 13 for width and step, then 15
 --   windowsOf            its answer: 0 and how many numbers were filled in, else the refusal and 0
 --   numbersAfter, scratchAfter    the two lent lists after it: a refusal leaves them as they were
-use Prim.Native.Nat.{ℕ, _%_}
-use mathlib.Core.Bool.{Bool, _&&_}
+use Prim.Native.Nat.{ℕ}
+use mathlib.Core.Bool.{Bool}
 use mathlib.Core.List.{List, [], _∷_, _++_}
-use lib.Dec.{leb, eqb}
+use lib.Dec.{leb}
 use lib.ListN.{length, take, drop}
 use Rattle.order.specs.declared.Refusal.{Refusal}
-use Rattle.order.specs.declared.Refusal.the-variants.{RunLimit, RoomShort}
-use Rattle.order.specs.Refusals.{refusalNumber, numberOf, ifDone, Told, answer, isSize}
+use Rattle.order.specs.declared.Refusal.the-variants.{RoomShort}
+use Rattle.order.specs.Refusals.{refusalNumber, numberOf, ifDone, Told, answer}
 use Rattle.cell_run.specs.declared.Run.{Run}
+use Rattle.cell_run.specs.Run.{limitChecks}
 use Rattle.window.specs.declared.WindowsAnswer.{WindowsAnswer}
 use Rattle.window.specs.declared.WindowsAnswer.the-variants.{Refused, Filled}
 use Rattle.window.specs.Ring.{windowNumbers}
@@ -31,12 +30,6 @@ use Rattle.window.specs.Ring.{windowNumbers}
 
 abbrev pub ring : Run → List ℕ
 ring r = take (r .len) (r .levels)
-
-abbrev pub isWidth : ℕ → ℕ → Bool
-isWidth n w = isSize w && leb w n
-
-abbrev pub isStep : ℕ → ℕ → ℕ → Bool
-isStep n w s = leb 1 s && leb s w && eqb (n % s) 0
 
 unfoldable pub scratchLevels : List ℕ → ℕ → ℕ → List ℕ
 scratchLevels ls width step = ls
@@ -57,11 +50,10 @@ module _ (ofRun : List (Bool × Refusal)) (ls : List ℕ) (width step : ℕ) (nu
   abbrev pub windowChecks : List (Bool × Refusal)
   windowChecks =
       ofRun
-      ++ (isWidth (length ls) width, RunLimit)
-      ∷ (isStep (length ls) width step, RunLimit)
-      ∷ (hasRoom (windowNumbers ls width step) numbers, RoomShort)
+      ++ (limitChecks (length ls) width step
+      ++ (hasRoom (windowNumbers ls width step) numbers, RoomShort)
       ∷ (hasRoom (scratchLevels ls width step) scratch, RoomShort)
-      ∷ []
+      ∷ [])
 
   unfoldable pub windowsOf : Told ℕ
   windowsOf = answer windowChecks (length (windowNumbers ls width step)) 0

@@ -7,20 +7,20 @@
 use Prim.Native.Nat.{ℕ, _/_, _≤_}
 use mathlib.Core.Path.{_≡_}
 use mathlib.Core.Bool.{Bool}
-use mathlib.Core.List.{List, [], _∷_}
+use mathlib.Core.List.{List, [], _∷_, _++_}
 use lib.Dec.{leb, ltb}
 use lib.ListN.{length, drop}
 use Rattle.order.specs.declared.Refusal.{Refusal}
-use Rattle.order.specs.declared.Refusal.the-variants.{RunLimit, RoomShort}
+use Rattle.order.specs.declared.Refusal.the-variants.{RoomShort}
 use Rattle.order.specs.Cells.{tally}
-use Rattle.window.specs.Calls.{isWidth, isStep}
+use Rattle.cell_run.specs.Run.{limitChecks}
 
 unfoldable pub standsAfter : ℕ → ℕ → ℕ
 standsAfter level later = tally (ltb level later)
 
 abbrev pub callChecks : ℕ → ℕ → ℕ → ℕ → ℕ → List (Bool × Refusal)
 callChecks n width step numbers scratch =
-    (isWidth n width, RunLimit) ∷ (isStep n width step, RunLimit) ∷ (leb (n / step) numbers, RoomShort) ∷ (leb n scratch, RoomShort) ∷ []
+    limitChecks n width step ++ (leb (n / step) numbers, RoomShort) ∷ (leb n scratch, RoomShort) ∷ []
 
 pub record Numberable (ring : List ℕ) (width step : ℕ) (numbers scratch : List ℕ) : Type 0 where
   pub first : 1 ≤ length ring

@@ -11,7 +11,7 @@ ghost use Rattle.order.specs.Refusals.{outcomeNumber, numberOf};
 ghost use Rattle.coordinates.specs.Coordinates.{coordinateOf};
 ghost use Rattle.cell_run.specs.Run.{runChecks, levelChecks};
 ghost use Rattle.window.specs.Ring.{windowOrder, windowNumber, windowAt, windowNumbers};
-ghost use Rattle.window.specs.Calls.{ring, isWidth, isStep, scratchLevels, putFirst, toldWindows, windowsOf, numbersAfter, scratchAfter};
+ghost use Rattle.window.specs.Calls.{ring, scratchLevels, putFirst, toldWindows, windowsOf, numbersAfter, scratchAfter};
 ghost use Rattle.window.specs.Steps.{standsAfter, callChecks, Numberable, KeptPast};
 
 // How many windows were numbered, or why none was.
@@ -76,12 +76,10 @@ pub fn windows_of_levels(
 fn check_call(n: usize, width: usize, step: usize, numbers: usize, scratch: usize) -> Outcome
     ensures { λ r. ⌜ outcomeNumber r ≡ numberOf (callChecks n width step numbers scratch) ⌝ }
 {
-    if !is_width(n, width) {
-        return Outcome::Refused(Refusal::RunLimit);
-    }
-    if !is_step(n, width, step) {
-        return Outcome::Refused(Refusal::RunLimit);
-    }
+    let limits = cell_run::check_windows(n, width, step);
+    let Outcome::Done = limits else {
+        return limits;
+    };
     if numbers < n / step {
         return Outcome::Refused(Refusal::RoomShort);
     }
@@ -89,30 +87,6 @@ fn check_call(n: usize, width: usize, step: usize, numbers: usize, scratch: usiz
         return Outcome::Refused(Refusal::RoomShort);
     }
     Outcome::Done
-}
-
-// Whether a window of a run of n cells can be so wide.
-fn is_width(n: usize, width: usize) -> bool
-    ensures { λ r. ⌜ r ≡ isWidth n width ⌝ }
-{
-    if order::is_size(width) {
-        width <= n
-    } else {
-        false
-    }
-}
-
-// Whether the windows of a run of n cells can be a step apart.
-fn is_step(n: usize, width: usize, step: usize) -> bool
-    ensures { λ r. ⌜ r ≡ isStep n width step ⌝ }
-{
-    if step < 1 {
-        return false;
-    }
-    if width < step {
-        return false;
-    }
-    n % step == 0
 }
 
 // Numbers each window. At the end the levels of the whole ring stand first in the scratch.

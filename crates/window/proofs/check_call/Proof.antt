@@ -1,60 +1,49 @@
 -- `window::check_call` meets its contract.
 -- Assumes nothing.
 use borrow.Author.Needs.{needs}
-use borrow.Author.Tests.{not-true, not-false, le-leb, lt-leb}
+use borrow.Author.Tests.{le-leb, lt-leb}
 use mathlib.Core.Path.{_≡_, sym, _∙_}
-use mathlib.Core.Bool.{true}
-use Rattle.order.proofs.Refusals.{check-fails, check-holds, all-hold}
-use Rattle.window.specs.Calls.{isWidth, isStep}
-use Rattle.window.proofs.Answers.{step-forward}
+use Rattle.order.specs.Refusals.{numberOf}
+use Rattle.order.proofs.Refusals.{accepted, check-fails, check-holds, all-hold, outcome-first, later-decide}
+use Rattle.cell_run.specs.Run.{limitChecks}
+use Rattle.cell_run.proofs.Checks.{limits-held}
 use Rattle.window.proofs.check_call.Statement.{statement}
 use Rattle.window.proofs.check_call.Tie as tie
 
 returns : tie.Need-returns
-returns c = sym (check-fails _ _ (sym (c .before .is-width .ensures) ∙ not-true _ (c .if1 .taken)))
+returns c =
+    let a = c .before .before .before .args in
+    outcome-first _ (limitChecks (a .n) (a .width) (a .step)) (c .before .before .check-windows .ensures) (c .enum-told2 .given .1)
 
--- the width has passed
-fitting : (c : tie.Else1) → let a = c .before .before .args in isWidth (a .n) (a .width) ≡ true
-fitting c = sym (c .before .is-width .ensures) ∙ not-false _ (c .if1 .left)
+-- width and step have passed
+passed : (c : tie.After-enum-told) → let a = c .before .before .before .args in numberOf (limitChecks (a .n) (a .width) (a .step)) ≡ 0
+passed c = accepted (c .before .before .check-windows .ensures) (c .enum-told .given .1)
+
+div-if1 : tie.Need-div-if1
+div-if1 c = let a = c .before .before .before .args in limits-held (a .n) (a .width) (a .step) (passed c) .forward
 
 returns-2 : tie.Need-returns-2
-returns-2 c = sym (check-holds _ _ (fitting (c .before .before)) ∙ check-fails _ _ (sym (c .before .is-step .ensures) ∙ not-true _ (c .if2 .taken)))
-
--- and so has the step
-stepping : (c : tie.Else2) → let a = c .before .before .before .before .args in isStep (a .n) (a .width) (a .step) ≡ true
-stepping c = sym (c .before .is-step .ensures) ∙ not-false _ (c .if2 .left)
-
-div-if3 : tie.Need-div-if3
-div-if3 c = step-forward _ _ _ (stepping c)
+returns-2 c = sym (later-decide _ _ (passed (c .before)) ∙ check-fails _ _ (lt-leb _ _ (c .if1 .taken)))
 
 returns-3 : tie.Need-returns-3
 returns-3 c =
     let d = c .before in
-    sym (check-holds _ _ (fitting (d .before .before)) ∙ check-holds _ _ (stepping d) ∙ check-fails _ _ (lt-leb _ _ (c .if3 .taken)))
+    sym (later-decide _ _ (passed (d .before)) ∙ check-holds _ _ (le-leb _ _ (d .if1 .left)) ∙ check-fails _ _ (lt-leb _ _ (c .if2 .taken)))
 
 returns-4 : tie.Need-returns-4
 returns-4 c =
-    let d = c .before .before in
-    sym
-    (check-holds _ _ (fitting (d .before .before)) ∙ check-holds _ _ (stepping d) ∙ check-holds _ _ (le-leb _ _ (c .before .if3 .left))
-    ∙ check-fails _ _ (lt-leb _ _ (c .if4 .taken)))
-
-returns-5 : tie.Need-returns-5
-returns-5 c =
-    let d = c .before .before in
-    sym
-    (check-holds _ _ (fitting (d .before .before)) ∙ check-holds _ _ (stepping d) ∙ check-holds _ _ (le-leb _ _ (c .before .if3 .left))
-    ∙ check-holds _ _ (le-leb _ _ (c .if4 .left)) ∙ all-hold)
+    let d = c .before in
+    sym (later-decide _ _ (passed (d .before)) ∙ check-holds _ _ (le-leb _ _ (d .if1 .left)) ∙ check-holds _ _ (le-leb _ _ (c .if2 .left)) ∙ all-hold)
 
 pub check-call-spec : {M : Type 1} → statement M
 check-call-spec =
     tie.close
     (tie.spec
     (λ c κs. search needs)
+    (λ c. search needs)
+    (λ c. search needs)
     returns
-    (λ c κs. search needs)
+    div-if1
     returns-2
-    div-if3
     returns-3
-    returns-4
-    returns-5)
+    returns-4)

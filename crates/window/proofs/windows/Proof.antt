@@ -8,9 +8,10 @@ use lib.ListN.{length}
 use lib.Seq.{length-take-le}
 use Rattle.order.specs.Refusals.{outcomeNumber, numberOf}
 use Rattle.order.proofs.Refusals.{accepted}
-use Rattle.cell_run.specs.Run.{runChecks}
+use Rattle.cell_run.specs.Run.{runChecks, levelChecks}
 use Rattle.cell_run.proofs.Checks.{checked-length}
 use Rattle.cell_run.proofs.Runs.{IsRun, levels-pass}
+use Rattle.window.specs.Calls.{ring}
 use Rattle.window.proofs.Answers.{run-refused, run-passed, run-passing}
 use Rattle.window.proofs.windows.Statement.{statement}
 use Rattle.window.proofs.windows.Tie as tie
@@ -46,8 +47,11 @@ returns-2 c =
     let n = c .before .before .before .before in
     let d = n .before .before .before .before .before in
     let start = d .before .before .before .before .before in
-    let run : IsRun (start .args .run) = record { passes = passed d; levels = all start } in
-    run-passed _ _ _ _ _ _ (passed d) (run-passing _ _ _ _ _ _ (levels-pass (start .args .run) run) (n .windows-of-levels .ensures))
+    let a = start .args in
+    let r = a .run in
+    let run : IsRun r = record { passes = passed d; levels = all start } in
+    run-passed (runChecks r) (ring r) (a .width) (a .step) (a .numbers .now) (a .scratch .now) (passed d)
+    (run-passing (levelChecks (ring r)) (ring r) (a .width) (a .step) (a .numbers .now) (a .scratch .now) (levels-pass r run) (n .windows-of-levels .ensures))
 
 pub windows-spec : {M : Type 1} → statement M
 windows-spec =

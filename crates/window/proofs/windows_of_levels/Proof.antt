@@ -24,7 +24,10 @@ returns-2 : tie.Need-returns-2
 returns-2 c =
     let call = c .before .before .before in
     let known = c .before .checked .given in
-    run-passed _ _ _ _ _ _ (held (call .before)) (call-refused _ _ _ _ _ (known .0 .0) (sym (call .check-call .ensures) ∙ ap outcomeNumber (known .1)))
+    let a = call .before .before .before .before .before .before .before .args in
+    run-passed (levelChecks (a .levels .now)) (a .levels .now) (a .width) (a .step) (a .numbers .now) (a .scratch .now) (held (call .before))
+    (call-refused (a .levels .now) (a .width) (a .step) (a .numbers .now) (a .scratch .now) (known .0 .0)
+    (sym {b = numberOf (callChecks (length (a .levels .now)) (a .width) (a .step) (length (a .numbers .now)) (length (a .scratch .now)))} (call .check-call .ensures) ∙ ap outcomeNumber (known .1)))
 
 -- and so has the call
 passed : (c : tie.After-enum-told2) → let a = c .before .before .before .before .before .before .before .before .before .args in
@@ -44,7 +47,9 @@ returns-3 : tie.Need-returns-3
 returns-3 c =
     let n = c .before .before .before .before in
     let d = n .before .before .before in
-    run-passed _ _ _ _ _ _ (held (d .before .before .before)) (filled _ _ _ _ _ (passed d) (n .number-windows .ensures .0) (n .number-windows .ensures .1))
+    let a = d .before .before .before .before .before .before .before .before .before .args in
+    run-passed (levelChecks (a .levels .now)) (a .levels .now) (a .width) (a .step) (a .numbers .now) (a .scratch .now) (held (d .before .before .before))
+    (filled (a .levels .now) (a .width) (a .step) (a .numbers .now) (a .scratch .now) (passed d) (n .number-windows .ensures .0) (n .number-windows .ensures .1))
 
 pub windows-of-levels-spec : {M : Type 1} → statement M
 windows-of-levels-spec =

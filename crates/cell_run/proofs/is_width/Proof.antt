@@ -1,9 +1,9 @@
--- `window::is_width` meets its contract.
+-- `cell_run::is_width` meets its contract.
 -- Assumes nothing.
 use borrow.Author.Needs.{needs}
 use mathlib.Core.Path.{sym, _∙_}
-use Rattle.window.proofs.is_width.Statement.{statement}
-use Rattle.window.proofs.is_width.Tie as tie
+use Rattle.cell_run.proofs.is_width.Statement.{statement}
+use Rattle.cell_run.proofs.is_width.Tie as tie
 
 is-size-requires : tie.Need-is-size-requires
 is-size-requires c κs = search needs

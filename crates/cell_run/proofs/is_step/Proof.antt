@@ -1,9 +1,9 @@
--- `window::is_step` meets its contract.
+-- `cell_run::is_step` meets its contract.
 -- Assumes nothing.
 use borrow.Author.Needs.{needs}
 use borrow.Author.Tests.{le-leb, lt-leb}
-use Rattle.window.proofs.is_step.Statement.{statement}
-use Rattle.window.proofs.is_step.Tie as tie
+use Rattle.cell_run.proofs.is_step.Statement.{statement}
+use Rattle.cell_run.proofs.is_step.Tie as tie
 
 returns : tie.Need-returns
 returns c = rw (lt-leb _ _ (c .if1 .taken))
