@@ -1,8 +1,9 @@
 // Runs the functions of `exports`, and `calls::run`, as a program that links them does: the number of codewords of n cells for n = 0 to 13; the
-// windows of a run of 14 cells; for each file of data/ the room, the answers where a byte of it is missing and
-// where none is, and the text; and an input longer than is read. The expected text is not the engine's own: scripts/reference reckons the texts
-// and, with --windows, the windows; K(n) is the number of ways to choose coordinates 1 to n - 1, coordinate i from 0 to i, such that the sum of i
-// times coordinate i is divisible by 2n - 1, counted one residue at a time.
+// windows of a run of 14 cells, refused and done; for each file of data/ the room, the answers where a byte of it is missing and where none is, and
+// the text; and an input longer than is read. The expected text is not the engine's own: scripts/reference reckons the texts and, with --windows,
+// the windows; what lent lists hold besides is what request (a) of document 02 says, the run's levels and what stood there; K(n) is the number of
+// ways to choose coordinates 1 to n - 1, coordinate i from 0 to i, such that the sum of i times coordinate i is divisible by 2n - 1, counted one
+// residue at a time.
 use libc::STDOUT_FILENO;
 ghost use mathlib.Core.Path.{_≡_};
 ghost use lib.ListN.{length};
@@ -29,20 +30,38 @@ fn words() {
     }
 }
 
-// Two windows of 12 cells along 14 that are 7 cells apart, in a list of three places. The second closes the ring.
+// Two windows of 12 cells along 14 that are 7 cells apart; the second closes the ring. First with one place for their numbers, then with three.
 fn windows() {
     let levels: [u16; 14] = [5, 1, 1, 9, 0, 3, 5, 0, 2, 2, 4, 9, 1, 0];
     let mut numbers: [u32; 3] = [7, 7, 7];
-    let mut scratch: [u16; 14] = [0; 14];
-    let done = exports::rm_windows(&levels, 12, 7, &mut numbers, &mut scratch);
-    number(b"rm_windows ", wide(done));
-    list_numbers(&numbers);
+    let mut scratch: [u16; 16] = [6; 16];
+    tell_windows(&levels, &mut numbers, 1, &mut scratch);
+    tell_windows(&levels, &mut numbers, 3, &mut scratch);
+}
+
+// The answer where so many places are lent for the numbers, and both lists as they are then.
+fn tell_windows(levels: &[u16], numbers: &mut [u32], places: usize, scratch: &mut [u16]) {
+    if numbers.len() < places {
+        return;
+    }
+    let answer = exports::rm_windows(levels, 12, 7, &mut numbers[..places], scratch);
+    number(b"rm_windows ", wide(answer));
+    list_numbers(numbers);
+    list_scratch(scratch);
 }
 
 fn list_numbers(numbers: &[u32]) {
     let mut i = 0;
     while i < numbers.len() {
         number(b"number ", wide_number(numbers[i]));
+        i += 1;
+    }
+}
+
+fn list_scratch(scratch: &[u16]) {
+    let mut i = 0;
+    while i < scratch.len() {
+        number(b"scratch ", wide_level(scratch[i]));
         i += 1;
     }
 }
@@ -130,6 +149,10 @@ fn wide(b: u8) -> u64 {
 
 fn wide_number(n: u32) -> u64 {
     n as u64
+}
+
+fn wide_level(level: u16) -> u64 {
+    level as u64
 }
 
 fn number(name: &[u8], n: u64) {
