@@ -1,6 +1,7 @@
-/* The rank modulation rewrite engine as a static library: target/staticlib/libexports.a, built by
- * `rt staticlib exports`. The functions keep no state, allocate nothing and always return; any
- * threads may call them at once. */
+/* The rank modulation rewrite engine as a static library for x86-64 Linux:
+ * target/staticlib/libexports.a, built by `rt staticlib exports`. The functions keep no global
+ * state, allocate nothing, do no input or output and always return; any threads may call them at
+ * once. */
 #ifndef RM_H
 #define RM_H
 
@@ -29,19 +30,23 @@ uint32_t rm_words(size_t n);
 /* The numbers of the windows along a run (local rank modulation).
  *
  * A run is a ring of cells: cell 1 follows the last one. levels has the level of each, cell 1 first.
+ * This list is all there is to a run: the caller starts it with zeros and raises a cell by storing
+ * its new level. That cells only rise is not looked at here; the Rattle crate cell_run has a record
+ * for a run, and open_run and raise_cell, which see to it.
+ *
  * A window is width cells of the ring one after another. The first window starts with cell 1, the
  * next with cell 1 + step, and so on; there are levels_len / step windows, and the last ones may go
  * round the end of the run.
  *
  * The number of a window tells the order of its levels; it is from 0 to width! - 1, where width! is
- * 1 * 2 * .. * width.
- * With its cells numbered anew from 1, it is the sum of c(i) times i factorial for i from 1 to
- * width - 1, where c(i) counts the cells before cell i + 1 of the window that have a lower level. Of
- * two cells with equal levels, the one that comes first in the window thus counts as the higher.
+ * 1 * 2 * .. * width. With its cells numbered anew from 1, it is the sum of c(i) times i factorial
+ * for i from 1 to width - 1, where c(i) counts the cells before cell i + 1 of the window that have a
+ * lower level. Of two cells with equal levels, the one that comes first in the window thus counts as
+ * the higher.
  *
- * Where 0 is returned, the numbers of the windows stand at the start of numbers, in the order of the windows, and
- * the run's levels at the start of scratch. All places after these keep what they held, and levels is
- * only read. Otherwise nothing is written, and the answer says why:
+ * Where 0 is returned, the numbers of the windows stand at the start of numbers, in the order of the
+ * windows, and the run's levels at the start of scratch. All places after these keep what they held,
+ * and levels is only read. Otherwise nothing is written, and the answer says why:
  *   13  levels_len is not 3 to 128, or a level is above 4,095, or width is not 3 to 12 or is above
  *       levels_len, or step is 0 or above width or does not divide levels_len
  *   15  numbers_len is below levels_len / step, or scratch_len is below levels_len
@@ -52,6 +57,10 @@ uint32_t rm_words(size_t n);
  *   cells 2 3 4, levels 9 5 2: c(1) = 0, c(2) = 0, number 0
  *   cells 3 4 1, levels 5 2 5: c(1) = 0, c(2) = 1, number 2
  *   cells 4 1 2, levels 2 5 9: c(1) = 1, c(2) = 2, number 5
+ *
+ * A window takes width * (width - 1) / 2 comparisons of levels, at most 66; besides, each level of
+ * the run is compared with 4,095 and copied once, and a window round the end of the run is copied
+ * once. A call takes less than 256 bytes of stack, as measured.
  *
  * All memory stays the caller's, who sees to it that levels, numbers and scratch, aligned and not
  * null even where a length is 0, have levels_len, numbers_len and scratch_len elements, and that
