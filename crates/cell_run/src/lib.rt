@@ -1,6 +1,6 @@
-// Runs of 3 to 128 cells (document 02, request (a)): the record, the limits of a run and its windows, and the calls that open a run and raise its cells. A run goes in by value and comes
-// back by value. Every public function takes any value, and one equation with a definition of specs/ fixes its answer. Proved besides: a run
-// stays a run (proofs/Runs).
+// Runs of 3 to 128 cells (document 02, request (a)): the record, the limits of a run and of its windows, and the calls that open a run and raise
+// its cells. A run goes in by value and comes back by value. Every public function takes any value, and one equation with a definition of specs/
+// fixes its answer. Proved besides: a run stays a run (proofs/Runs).
 use order::Cell;
 use order::Outcome;
 use order::Refusal;
@@ -50,11 +50,48 @@ pub fn check_levels(levels: &[u16]) -> Outcome
     Outcome::Done
 }
 
+// Done for a width and a step of windows along a run of n cells, else why there are no such windows.
+pub fn check_windows(n: usize, width: usize, step: usize) -> Outcome
+    ensures { λ r. ⌜ outcomeNumber r ≡ numberOf (limitChecks n width step) ⌝ }
+{
+    if !is_width(n, width) {
+        return Outcome::Refused(Refusal::RunLimit);
+    }
+    if !is_step(n, width, step) {
+        return Outcome::Refused(Refusal::RunLimit);
+    }
+    Outcome::Done
+}
+
 // Whether a run can have n cells.
 fn is_length(n: usize) -> bool
     ensures { λ r. ⌜ r ≡ isLength n ⌝ }
 {
     if 3 <= n { n <= 128 } else { false }
+}
+
+// Whether a window of a run of n cells can be so wide.
+fn is_width(n: usize, width: usize) -> bool
+    ensures { λ r. ⌜ r ≡ isWidth n width ⌝ }
+{
+    if order::is_size(width) {
+        width <= n
+    } else {
+        false
+    }
+}
+
+// Whether the windows of a run of n cells can be a step apart.
+fn is_step(n: usize, width: usize, step: usize) -> bool
+    ensures { λ r. ⌜ r ≡ isStep n width step ⌝ }
+{
+    if step < 1 {
+        return false;
+    }
+    if width < step {
+        return false;
+    }
+    n % step == 0
 }
 
 // Whether the levels of the run's cells are at most 4,095, and the places past them 0.
@@ -82,43 +119,6 @@ fn all_at_most(levels: &[u16], highest: u16) -> bool
         i += 1;
     }
     over == 0
-}
-
-// The same for the width and the step of windows along a run of n cells.
-pub fn check_windows(n: usize, width: usize, step: usize) -> Outcome
-    ensures { λ r. ⌜ outcomeNumber r ≡ numberOf (limitChecks n width step) ⌝ }
-{
-    if !is_width(n, width) {
-        return Outcome::Refused(Refusal::RunLimit);
-    }
-    if !is_step(n, width, step) {
-        return Outcome::Refused(Refusal::RunLimit);
-    }
-    Outcome::Done
-}
-
-// Whether a window of a run of n cells can be so wide.
-fn is_width(n: usize, width: usize) -> bool
-    ensures { λ r. ⌜ r ≡ isWidth n width ⌝ }
-{
-    if order::is_size(width) {
-        width <= n
-    } else {
-        false
-    }
-}
-
-// Whether the windows of a run of n cells can be a step apart.
-fn is_step(n: usize, width: usize, step: usize) -> bool
-    ensures { λ r. ⌜ r ≡ isStep n width step ⌝ }
-{
-    if step < 1 {
-        return false;
-    }
-    if width < step {
-        return false;
-    }
-    n % step == 0
 }
 
 // A run of len cells, all at 0.

@@ -3,8 +3,8 @@
 --   factorial n                   1 times 2 times .. times n; 1 where n is 0
 --   factorialSum x m              the sum of x i times i factorial, for i from 1 to m
 --   orderNumber n xs              the number of an order of n cells: the sum of coordinate i times i factorial
---   windowOrder ls                the order in which a reading finds the cells of a window, numbered from 1, that have the levels ls
---   windowNumber ls               the number of that window: of that order
+--   windowOrder ls                the order in which a reading finds the cells of a window, numbered from 1, where their levels are ls
+--   windowNumber ls               the number of such a window: that of this order
 --   levelRound ring i             the level of the cell that comes i cells after cell 1, round the ring
 --   windowAt ring width p         the levels of the window of so many cells that starts with cell p + 1 of the ring, in ring order
 --   numberAt ring width step k    the number of the window that starts k steps after cell 1
