@@ -1,5 +1,4 @@
-// The one-error code (document 01, "The one-error code"): words by listing every one of them, and, where that is too long, by counting
-// those that come before; readings by searching all words, and by trying the order and its neighbour exchanges.
+// The one-error code (document 01, "The one-error code"): words by listing every one of them, readings by searching all words.
 use crate::numbers::add;
 use crate::numbers::at;
 use crate::numbers::byte;
@@ -7,11 +6,9 @@ use crate::numbers::is_size;
 use crate::numbers::product;
 use crate::numbers::put;
 use crate::numbers::wide;
-use crate::orders::OrderFound;
 use crate::orders::cells_of;
 use crate::orders::check_order;
 use crate::orders::coordinates_at;
-use crate::orders::no_order;
 use crate::orders::placed;
 use crate::orders::places;
 use crate::orders::with_cells;
@@ -38,7 +35,7 @@ pub struct Reading {
 const LISTS: u32 = 479001600;
 
 // What a weighted sum leaves when it is divided by 2n - 1.
-fn left(sum: usize, n: usize) -> usize {
+pub fn left(sum: usize, n: usize) -> usize {
     if n < 1 {
         return 0;
     }
@@ -111,89 +108,6 @@ pub fn word_cells(l: Listing) -> [u8; 12] {
     placed(values, l.n)
 }
 
-// So many lists more for each of the first values of coordinate i; without it their weighted sum is this one. Lists are counted by what the
-// sum leaves.
-fn with_lists(
-    counts: [u32; 23],
-    lists: u32,
-    sum: usize,
-    i: usize,
-    values: usize,
-    n: usize,
-) -> [u32; 23] {
-    let mut next = counts;
-    let mut turned = sum;
-    for _ in 0..values {
-        let r = left(turned, n);
-        if r < 23 {
-            next[r] = std::num::wrapping_add_u32(next[r], lists);
-        }
-        turned = add(turned, i);
-    }
-    next
-}
-
-// The lists that come before one whose weighted sum was this, where its coordinate i is x: those that did so already, with any value of
-// coordinate i, and those that have a smaller one there.
-fn before_with(counts: [u32; 23], sum: usize, i: usize, x: usize, n: usize) -> [u32; 23] {
-    let mut next = with_lists([0; 23], 1, sum, i, x, n);
-    for r in 0..23 {
-        let more = with_lists(next, counts[r], r, i, add(i, 1), n);
-        next = more;
-    }
-    next
-}
-
-// How many words come before a list of coordinates in the dictionary.
-pub fn words_before(values: [u8; 12], n: usize) -> u32 {
-    let mut counts = [0u32; 23];
-    let mut sum: usize = 0;
-    for i in 0..12 {
-        if i < n {
-            let next = before_with(counts, sum, i, wide(values[i]), n);
-            counts = next;
-            sum = add(sum, product(byte(i), values[i]));
-        }
-    }
-    counts[0]
-}
-
-// The last list of coordinates that has at most so many words before it.
-fn last_list(n: usize, most: u32) -> [u8; 12] {
-    let mut values = [0u8; 12];
-    for k in 0..144 {
-        let i = k / 12;
-        let v = k % 12;
-        if i < n {
-            if v <= i {
-                let next = put(values, i, byte(v));
-                if words_before(next, n) <= most {
-                    values = next;
-                }
-            }
-        }
-    }
-    values
-}
-
-// The word of a number.
-pub fn codeword(n: usize, symbol: u32) -> OrderFound {
-    if !is_size(n) {
-        return no_order(1);
-    }
-    let values = last_list(n, symbol);
-    if words_before(values, n) != symbol {
-        return no_order(5);
-    }
-    if !is_word(values, n) {
-        return no_order(5);
-    }
-    OrderFound {
-        number: 0,
-        order: with_cells(placed(values, n), n),
-    }
-}
-
 // Whether the weighted sum of an order's coordinates is divisible by 2n - 1: 1 or 0.
 pub fn is_codeword(o: Order) -> NumberFound {
     let number = check_order(o);
@@ -255,24 +169,6 @@ pub fn exchanged(cells: [u8; 12], k: usize) -> [u8; 12] {
     }
     let once = put(cells, k, at(cells, k - 1));
     put(once, k - 1, at(cells, k))
-}
-
-// The word at distance 0 or 1: the order itself, or one with a neighbour exchange.
-pub fn decode(o: Order) -> Reading {
-    let number = check_order(o);
-    if number != 0 {
-        return no_reading(number);
-    }
-    let n = o.len;
-    let cells = cells_of(o);
-    for k in 0..n {
-        let word = exchanged(cells, k);
-        let values = coordinates_at(word, n);
-        if is_word(values, n) {
-            return found(cells, word, n, words_before(values, n));
-        }
-    }
-    no_reading(7)
 }
 
 // What a reading says of cells that are near a word.

@@ -1,0 +1,315 @@
+// A fixed sample of orders, groups and calls: each is made from numbers that say which one it is, so that nothing has to be kept.
+use group::Group;
+use naive::levels::index;
+use naive::numbers::add;
+use naive::numbers::at16;
+use naive::numbers::byte;
+use naive::orders::cells_of;
+use naive::orders::placed;
+use naive::orders::with_cells;
+use order::Cell;
+use order::Order;
+use plain_machine::Call;
+use plain_machine::Kind;
+
+// The number of orders of n cells.
+const ORDERS: [usize; 13] = [
+    1,
+    1,
+    2,
+    6,
+    24,
+    120,
+    720,
+    5040,
+    40320,
+    362880,
+    3628800,
+    39916800,
+    479001600,
+];
+
+// A number that looks random, for number k of a sequence.
+fn noise(sequence: usize, k: usize) -> usize {
+    let mut x = add(mixed(sequence), k);
+    x = mixed(x);
+    mixed(x)
+}
+
+fn mixed(x: usize) -> usize {
+    let a = add(add(x, 40503), x << 10);
+    let b = a ^ (a >> 6);
+    let c = add(b, b << 3);
+    let d = c ^ (c >> 11);
+    let e = add(d, d << 15);
+    e ^ (e >> 32)
+}
+
+// A number below m, 0 where there is none.
+pub fn below(m: usize, sequence: usize, k: usize) -> usize {
+    if m == 0 { 0 } else { noise(sequence, k) % m }
+}
+
+fn below32(m: usize, sequence: usize, k: usize) -> u32 {
+    let x = below(m, sequence, k);
+    if x < 4294967296 { x as u32 } else { 0 }
+}
+
+fn below16(m: usize, sequence: usize, k: usize) -> u16 {
+    narrow(below(m, sequence, k))
+}
+
+pub fn narrow(x: usize) -> u16 {
+    if x < 65536 { x as u16 } else { 0 }
+}
+
+// Coordinates of n cells, coordinate i at index i.
+fn coordinates(n: usize, s: usize) -> [u8; 12] {
+    let mut values = [0u8; 12];
+    for i in 0..12 {
+        if i < n {
+            values[i] = byte(below(i + 1, s, i));
+        }
+    }
+    values
+}
+
+// An order of n cells.
+pub fn order(n: usize, s: usize) -> Order {
+    with_cells(placed(coordinates(n, s), n), n)
+}
+
+// Order number k of n cells in the list of all coordinates.
+pub fn order_at(n: usize, k: usize) -> Order {
+    let mut l = naive::words::first(n);
+    for _ in 0..k {
+        l = naive::words::next(l);
+    }
+    with_cells(naive::words::word_cells(l), n)
+}
+
+// A word of n cells: the first of many sampled lists whose weighted sum is divisible by 2n - 1.
+pub fn word(n: usize, s: usize) -> Order {
+    for k in 0..1000 {
+        let values = coordinates(n, add(s, k));
+        if naive::words::is_word(values, n) {
+            return with_cells(placed(values, n), n);
+        }
+    }
+    order(n, s)
+}
+
+// An order of n cells with two neighbours exchanged.
+pub fn exchanged(o: Order, n: usize, s: usize) -> Order {
+    let k = add(below(std::num::wrapping_sub_usize(n, 1), s, 40), 1);
+    with_cells(naive::words::exchanged(cells_of(o), k), n)
+}
+
+// A size that no group has.
+pub fn size(k: usize) -> usize {
+    if k < 3 {
+        return k;
+    }
+    if k < 16 {
+        return 10 + k;
+    }
+    if k == 16 {
+        return 259;
+    }
+    if k == 17 {
+        return 65539;
+    }
+    if k == 18 {
+        return 4294967299;
+    }
+    18446744073709551615
+}
+
+// The order with one of its numbers set to another one: mostly a cell doubled and one missing, or a number that is no cell.
+fn damaged(o: Order, s: usize) -> Order {
+    let mut p = o;
+    let at = below(12, s, 50);
+    if at < 12 {
+        p.cells[at] = Cell(byte(below(15, s, 51)));
+    }
+    if below(4, s, 52) == 0 {
+        p.len = below(15, s, 53);
+    }
+    p
+}
+
+// A row of levels or caps below a bound, 0 past n.
+fn row(n: usize, bound: usize, s: usize) -> [u16; 12] {
+    let mut values = [0u16; 12];
+    for i in 0..12 {
+        if i < n {
+            values[i] = below16(bound, s, i);
+        }
+    }
+    values
+}
+
+// The caps of n new cells.
+fn full(n: usize) -> [u16; 12] {
+    let mut caps = [0u16; 12];
+    for i in 0..12 {
+        if i < n {
+            caps[i] = 4095;
+        }
+    }
+    caps
+}
+
+// A group that any order can be written to.
+pub fn low_group(n: usize, s: usize) -> Group {
+    let levels = row(n, 24, add(s, 1));
+    let caps = full(n);
+    let written = below(8, s, 62) != 0;
+    Group {
+        n,
+        levels,
+        caps,
+        written,
+    }
+}
+
+// A group that no order can be written to: the caps are 0 or 1.
+pub fn worn_group(n: usize, s: usize) -> Group {
+    let mut g = low_group(n, s);
+    let caps = row(n, 2, s);
+    g.caps = caps;
+    g
+}
+
+// A group with low levels or any, and with full caps or any.
+pub fn group(n: usize, s: usize) -> Group {
+    let mut g = low_group(n, s);
+    if below(2, s, 60) == 0 {
+        let levels = row(n, 4096, add(s, 2));
+        g.levels = levels;
+    }
+    if below(4, s, 61) == 0 {
+        let caps = row(n, 4096, add(s, 3));
+        g.caps = caps;
+    }
+    g
+}
+
+// A level or cap from 4,094 to 4,097, or in one of four any number.
+fn edge(s: usize) -> u16 {
+    if below(4, s, 72) == 0 {
+        return below16(65536, s, 73);
+    }
+    narrow(4094 + below(4, s, 76) % 4)
+}
+
+// A sampled group with another level, cap or size: mostly no group.
+pub fn forged(n: usize, s: usize) -> Group {
+    let mut h = group(n, s);
+    let at = below(12, s, 70);
+    let way = below(4, s, 71);
+    if at < 12 {
+        if way == 0 {
+            h.levels[at] = edge(s);
+        } else if way == 1 {
+            h.caps[at] = edge(s);
+        } else if way == 2 {
+            h.n = std::num::wrapping_sub_usize(add(n, below(4, s, 74)), 2);
+        } else {
+            h.n = size(below(20, s, 75));
+        }
+    }
+    h
+}
+
+// An order to write to n cells, damaged in one of 16.
+pub fn target(n: usize, s: usize) -> Order {
+    let o = order(n, add(s, 3));
+    if below(16, s, 80) == 0 {
+        return damaged(o, s);
+    }
+    o
+}
+
+// A cell of a group, or the number below or above, or 255.
+pub fn cell(g: Group, s: usize) -> Cell {
+    if below(16, s, 94) == 0 {
+        return Cell(255);
+    }
+    Cell(byte(below(add(g.n, 2), s, 82)))
+}
+
+// A call of the machine on a group: mostly one that can be accepted.
+pub fn call(g: Group, s: usize) -> Call {
+    Call {
+        kind: kind(g, s),
+        target: target(g.n, s),
+    }
+}
+
+fn kind(g: Group, s: usize) -> Kind {
+    let which = below(9, s, 81);
+    if which == 0 {
+        return Kind::Write;
+    }
+    if which == 1 {
+        return Kind::WriteInto(below(13, s, 95));
+    }
+    if which < 4 {
+        return Kind::Scrub;
+    }
+    if which == 4 {
+        return Kind::Read;
+    }
+    if which == 5 {
+        return Kind::Store(symbol(g.n, s));
+    }
+    let c = cell(g, s);
+    if which < 8 {
+        return Kind::Leak(c, drop(s));
+    }
+    if below(4, s, 83) == 0 {
+        return Kind::Erase;
+    }
+    Kind::Wear(c, cap(g, c, s))
+}
+
+// A symbol of n cells, or one just past the last, or any number: there are n! / (2n - 1) words, or one more.
+pub fn symbol(n: usize, s: usize) -> u32 {
+    if below(16, s, 84) == 0 {
+        return below32(4294967296, s, 85);
+    }
+    if n < 1 {
+        return 0;
+    }
+    if n < 13 {
+        return below32(add(ORDERS[n] / (2 * n - 1), 3), s, 86);
+    }
+    0
+}
+
+// How much a leak takes: little, or up to any number.
+pub fn drop(s: usize) -> u32 {
+    if below(8, s, 87) == 0 {
+        return below32(4294967296, s, 88);
+    }
+    below32(4, s, 89)
+}
+
+// A cap near the cell's level, near its cap, or any number.
+pub fn cap(g: Group, cell: Cell, s: usize) -> u32 {
+    let levels = g.levels;
+    let caps = g.caps;
+    let at = index(cell.0);
+    let way = below(8, s, 90);
+    if way == 0 {
+        return below32(4294967296, s, 91);
+    }
+    if way < 3 {
+        return std::num::wrapping_add_u32(at16(levels, at), below32(24, s, 92));
+    }
+    std::num::wrapping_sub_u32(
+        std::num::wrapping_add_u32(at16(caps, at), 1),
+        below32(6, s, 93),
+    )
+}
