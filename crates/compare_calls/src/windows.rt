@@ -70,10 +70,22 @@ const NO_LEVEL: u16 = 9999;
 // Where a raise goes: four levels that the present one is added to, then three as they are.
 const RAISES: [u32; 7] = [0, 4294967295, 1, 65536, 4095, 4096, 4294967295];
 
+// The length of record number k. Five in eight of the forged ones have one that no run has.
+fn length(k: usize) -> usize {
+    let way = k % 8;
+    if 32 <= k {
+        if way < 5 {
+            return WRONG[way];
+        }
+    }
+    LENGTHS[k % 32]
+}
+
 // Record number k. 0 to 31 are runs, with the m lowest levels, or in every second run the m highest, so that few of them are often equal. The
-// later ones are forged, and mostly no runs: with another length, or another level at the first, the last, the next or the last place of all.
+// later ones are forged, and mostly no runs, each with one fault: a wrong length, or another level at the first, the last, the next or the
+// last place of all.
 fn record(k: usize, m: usize) -> Run {
-    let n = LENGTHS[k % 32];
+    let n = length(k);
     let turned: usize = if k % 2 == 0 { 0 } else { 4095 };
     let mut r = Run {
         len: n,
@@ -90,11 +102,11 @@ fn record(k: usize, m: usize) -> Run {
     r
 }
 
+// The record with another level, where its length is a run's.
 fn forged(run: Run, k: usize) -> Run {
     let mut r = run;
     let way = k % 8;
     if way < 5 {
-        r.len = WRONG[way];
         return r;
     }
     let places = [0, std::num::wrapping_sub_usize(r.len, 1), r.len, 127];
