@@ -50,6 +50,9 @@ fn main() {
     r = each(r, Part::LentLists, 3, 12);
     // 141 lengths and 5 huge ones: 126 are opened, all else refused 13.
     r = part(r, b"opened runs, ", 146, windows::opens());
+    // 32 runs and as many forged ones, each as a record and as a list. Of the forged ones 20 have a wrong length; of 12 with another level 2 are
+    // runs as records, and 8 as lists: 74 are runs, 54 refused 13.
+    r = part(r, b"checked runs, ", 64, windows::checks());
     // 32 runs and as many forged ones, 256 cells, 7 levels: 0, 3, 13, 14.
     r = part(r, b"raises, runs ", 64, windows::raises());
     // 32 runs, 15 widths, 14 steps, 3 lengths of each of the two lists, 2 comparisons each. Where width and step fit, 4 of 9 are done and 5

@@ -148,6 +148,28 @@ pub fn opens() -> Tally {
     t
 }
 
+// Two comparisons of a record: whether it is a run, and whether its levels are one as a list.
+fn each_check(t: Tally, run: Run) -> Tally {
+    let levels = row(run);
+    let n = near(run.len, 1);
+    let listed = naive_calls::windows::listed(levels, n);
+    let t1 = same::checked(t, cell_run::check(run), naive_calls::windows::check(run));
+    same::checked(
+        t1,
+        cell_run::check_levels(&levels[..n]),
+        naive_calls::windows::check(listed),
+    )
+}
+
+// Every record.
+pub fn checks() -> Tally {
+    let mut t = none();
+    for k in 0..64 {
+        t = each_check(t, record(k, 4096));
+    }
+    t
+}
+
 // Cells 0 to 255, each raised to seven levels.
 fn every_cell(t: Tally, run: Run) -> Tally {
     let mut next = t;

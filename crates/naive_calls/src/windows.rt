@@ -178,14 +178,8 @@ pub fn windows(run: Run, width: usize, step: usize, lists: Lists) -> WindowsFoun
     numbered(run, width, step, lists)
 }
 
-// The same for a run that is handed in as a list, the first n of these levels.
-pub fn windows_of_levels(
-    levels: [u16; 130],
-    n: usize,
-    width: usize,
-    step: usize,
-    lists: Lists,
-) -> WindowsFound {
+// The record of a run that is handed in as a list, the first n of these levels.
+pub fn listed(levels: [u16; 130], n: usize) -> Run {
     let mut run = Run {
         len: n,
         levels: [0; 128],
@@ -195,5 +189,16 @@ pub fn windows_of_levels(
             run.levels[i] = levels[i];
         }
     }
-    windows(run, width, step, lists)
+    run
+}
+
+// The answer to a call for windows along a run that is handed in as a list.
+pub fn windows_of_levels(
+    levels: [u16; 130],
+    n: usize,
+    width: usize,
+    step: usize,
+    lists: Lists,
+) -> WindowsFound {
+    windows(listed(levels, n), width, step, lists)
 }
