@@ -17,7 +17,7 @@ use naive_calls::windows::WindowsFound;
 use order::Cell;
 use window::WindowsAnswer;
 
-// Lengths above those that are tried one by one. Cut to 8, 16 or 32 bits, three of them are 3.
+// Lengths, widths and steps above those that are tried one by one. Cut to 8, 16 or 32 bits, three of them are 3.
 const HUGE: [usize; 5] = [259, 65539, 4294967296, 4294967299, 18446744073709551615];
 
 // The lengths of the runs.
@@ -298,10 +298,18 @@ fn row(run: Run) -> [u16; 130] {
     levels
 }
 
-// Widths 0 to 14, steps 0 to 13, and lists with a place too few, just enough and one more: a record, and its levels as a list.
-fn every_window(t: Tally, run: Run) -> Tally {
+// Two comparisons of a call for windows: a record, and its levels as a list.
+fn each_call(t: Tally, run: Run, width: usize, step: usize, room: usize, places: usize) -> Tally
+    requires { ⌜ (room ≤ 130) × (places ≤ 130) ⌝ }
+{
     let levels = row(run);
     let n = near(run.len, 1);
+    let t1 = of_run(t, run, width, step, room, places);
+    of_levels(t1, levels, n, width, step, room, places)
+}
+
+// Widths 0 to 14, steps 0 to 13, and lists with a place too few, just enough and one more.
+fn every_window(t: Tally, run: Run) -> Tally {
     let mut next = t;
     for k in 0..1890 {
         let width = k / 126;
@@ -309,8 +317,7 @@ fn every_window(t: Tally, run: Run) -> Tally {
         let count = if step == 0 { 0 } else { run.len / step };
         let room = near(count, k / 3);
         let places = near(run.len, k);
-        next = of_run(next, run, width, step, room, places);
-        next = of_levels(next, levels, n, width, step, room, places);
+        next = each_call(next, run, width, step, room, places);
     }
     next
 }
@@ -333,4 +340,16 @@ pub fn slices() -> Tally {
         t = of_levels(t, levels, n, k / 14 % 15, k % 14, 130, 130);
     }
     t
+}
+
+// A call that fits a run of 12 cells; the same with a huge width, with a huge step, with no place for the numbers, and with none in the scratch.
+pub fn limits() -> Tally {
+    let run = record(9, 4096);
+    let mut t = each_call(none(), run, 3, 3, 130, 130);
+    for k in 0..5 {
+        t = each_call(t, run, HUGE[k], 3, 130, 130);
+        t = each_call(t, run, 3, HUGE[k], 130, 130);
+    }
+    t = each_call(t, run, 3, 3, 0, 130);
+    each_call(t, run, 3, 3, 130, 0)
 }

@@ -6,10 +6,10 @@ use Rattle.compare_calls.proofs.windows.every_window.Statement.{stateme
 use Rattle.compare_calls.proofs.windows.every_window.Tie as tie
 
 abbrev Inv-loop : tie.InvT-loop
-Inv-loop run levels n next₀ k₀ next k = Unit {0}
+Inv-loop run next₀ k₀ next k = Unit {0}
 
 abbrev μ-loop : tie.MeasureT-loop
-μ-loop run levels n next₀ k₀ next k = 1890 - k
+μ-loop run next₀ k₀ next k = 1890 - k
 
 pub every-window-spec : {M : Type 1} → statement M
 every-window-spec =
@@ -17,11 +17,8 @@ every-window-spec =
     (tie.spec
     Inv-loop
     μ-loop
-    (λ c κs. search needs)
-    (λ c κs. search needs)
     (λ c. search needs)
     (λ c. search needs)
-    (λ c κs. search needs)
     (λ c κs. search needs)
     (λ c κs. search needs)
     (λ c κs. search needs)
