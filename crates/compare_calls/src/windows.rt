@@ -342,13 +342,36 @@ pub fn slices() -> Tally {
     t
 }
 
+// One comparison of whether windows along n cells can have a width and a step.
+fn each_limit(t: Tally, n: usize, width: usize, step: usize) -> Tally {
+    same::checked(
+        t,
+        cell_run::check_windows(n, width, step),
+        naive_calls::windows::check_limits(n, width, step),
+    )
+}
+
+// 0 to 130 cells, widths 0 to 14, steps 0 to 13.
+pub fn every_limit() -> Tally {
+    let mut t = none();
+    for k in 0..27510 {
+        t = each_limit(t, k / 210, k / 14 % 15, k % 14);
+    }
+    t
+}
+
 // A call that fits a run of 12 cells; the same with a huge width, with a huge step, with no place for the numbers, and with none in the scratch.
+// The limits by themselves too, also of huge lengths.
 pub fn limits() -> Tally {
     let run = record(9, 4096);
     let mut t = each_call(none(), run, 3, 3, 130, 130);
     for k in 0..5 {
-        t = each_call(t, run, HUGE[k], 3, 130, 130);
-        t = each_call(t, run, 3, HUGE[k], 130, 130);
+        let huge = HUGE[k];
+        t = each_call(t, run, huge, 3, 130, 130);
+        t = each_call(t, run, 3, huge, 130, 130);
+        t = each_limit(t, 12, huge, 3);
+        t = each_limit(t, 12, 3, huge);
+        t = each_limit(t, huge, 3, 3);
     }
     t = each_call(t, run, 3, 3, 0, 130);
     each_call(t, run, 3, 3, 130, 0)

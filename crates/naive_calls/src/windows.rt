@@ -115,15 +115,12 @@ fn number_of(levels: [u16; 12], width: usize) -> u32 {
     sum
 }
 
-// The number for a call for windows: 13, and then 15.
-fn check_windows(run: Run, width: usize, step: usize, lists: Lists) -> u8 {
-    if check(run) != 0 {
-        return 13;
-    }
+// The number for a width and a step of windows along n cells.
+pub fn check_limits(n: usize, width: usize, step: usize) -> u8 {
     if !is_size(width) {
         return 13;
     }
-    if run.len < width {
+    if n < width {
         return 13;
     }
     if step < 1 {
@@ -132,7 +129,21 @@ fn check_windows(run: Run, width: usize, step: usize, lists: Lists) -> u8 {
     if width < step {
         return 13;
     }
-    if run.len % step != 0 {
+    if n % step != 0 {
+        return 13;
+    }
+    0
+}
+
+// The number for a call for windows: 13, and then 15.
+fn check_windows(run: Run, width: usize, step: usize, lists: Lists) -> u8 {
+    if check(run) != 0 {
+        return 13;
+    }
+    if check_limits(run.len, width, step) != 0 {
+        return 13;
+    }
+    if step == 0 {
         return 13;
     }
     if lists.room < run.len / step {
