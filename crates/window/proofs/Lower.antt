@@ -1,5 +1,5 @@
 -- Coordinate i of a reading's order counts the cells below i + 1 that do not stand above cell i + 1: a comparison of levels finds it, and no order
--- has to be made. The tie rule of reading comes in by `above` and `standsAfter`, which the three laws of the first section know and no other.
+-- has to be made. The tie rule of reading comes in by `above` and `standsAfter`, which the four laws of the first section know and no other.
 -- Assumes nothing.
 use Prim.Native.Nat.{ℕ, zero, suc, _+_, _-_, _≤_, _<_}
 use mathlib.Core.Path.{_≡_, refl, sym, ap, _∙_}
@@ -40,6 +40,10 @@ module _ (ls : List ℕ) (x d : ℕ) (l : x < d) where
       (λ t. rw (t .1, lt-leb (level ls d) (level ls x) (t .0)))
       (λ t. rw (t .1, le-leb (level ls d) (level ls x) (t .0)))
       (lt-cases (level ls x) (level ls d))
+
+after-one : (a b : ℕ) → standsAfter a b ≤ 1
+unfolding standsAfter
+after-one a b = tally-le (ltb a b)
 
 -- ---- two cells of a window
 
@@ -162,8 +166,7 @@ module _ {ls : List ℕ} {i j here next : ℕ} (c : Counting ls i j here next) w
 
   -- one more of each
   pub counted-fits : (a b : ℕ) {u : ℕ} → u ≡ standsAfter a b → (here + u ≤ i + 1) × (next + u ≤ i + 2)
-  unfolding standsAfter
-  counted-fits a b e = let low = counted-low in (omega (arith, low, c .reached, e, tally-le (ltb a b)), omega (arith, low, c .reached, e, tally-le (ltb a b)))
+  counted-fits a b e = let low = counted-low in (omega (arith, low, c .reached, e, after-one a b), omega (arith, low, c .reached, e, after-one a b))
 
   pub counting-more : {u v : ℕ} → j < i → u ≡ standsAfter (getD ls j 0) (getD ls i 0) → v ≡ standsAfter (getD ls j 0) (getD ls (i + 1) 0)
       → Counting ls i (j + 1) (here + u) (next + v)

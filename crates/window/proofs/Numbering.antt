@@ -62,23 +62,25 @@ module _ (ring : List ℕ) (width p : ℕ) (old : List ℕ) {new : List ℕ} (e 
 -- ---- the loop
 
 pub record Numbering (ring : List ℕ) (width step : ℕ) (numbers₀ scratch₀ numbers scratch : List ℕ) (start k : ℕ) : Type 0 where
-  pub needs : Numberable ring width step numbers₀ scratch₀
+  pub needs : Numberable ring width step numbers₀
+  pub room : length ring ≤ length scratch₀
   pub turn : k ≤ length ring / step
   pub list : numbers ≡ grown (numberAt ring width step) k numbers₀
   pub at : start ≡ k * step
   pub kept : drop width scratch ≡ drop width scratch₀
   pub long : length scratch ≡ length scratch₀
 
-pub begin : {ring : List ℕ} {width step : ℕ} {numbers scratch : List ℕ} → Numberable ring width step numbers scratch → Numbering ring width step numbers scratch numbers scratch 0 0
-begin {ring} {width} {step} {numbers} {scratch} n =
-    record { needs = n; turn = omega arith; list = grown-none (numberAt ring width step) numbers; at = sym (zero-mul step); kept = refl; long = refl }
+pub begin : {ring : List ℕ} {width step : ℕ} {numbers scratch : List ℕ} → Numberable ring width step numbers → length ring ≤ length scratch
+    → Numbering ring width step numbers scratch numbers scratch 0 0
+begin {ring} {width} {step} {numbers} {scratch} n l =
+    record { needs = n; room = l; turn = omega arith; list = grown-none (numberAt ring width step) numbers; at = sym (zero-mul step); kept = refl; long = refl }
 
 module _ {ring : List ℕ} {width step : ℕ} {numbers₀ scratch₀ numbers scratch : List ℕ} {start k : ℕ} (s : Numbering ring width step numbers₀ scratch₀ numbers scratch start k) where
   pub numbers-long : length numbers ≡ length numbers₀
   numbers-long = ap length (s .list) ∙ grown-length (numberAt ring width step) k numbers₀ (omega (arith, s .turn, s .needs .count))
 
   pub has-room : width ≤ length scratch
-  has-room = omega (arith, s .long, s .needs .inside, s .needs .room)
+  has-room = omega (arith, s .long, s .needs .inside, s .room)
 
   module _ (l : k < length ring / step) where
     -- a window starts on the ring, and the next start is not past its end
@@ -91,6 +93,7 @@ module _ {ring : List ℕ} {width step : ℕ} {numbers₀ scratch₀ numbers scr
         let here : number ≡ numberAt ring width step k = f ∙ ap (λ (p : ℕ). windowNumber (windowAt ring width p)) (s .at) in
         record {
           needs = s .needs;
+          room = s .room;
           turn = omega arith;
           list = rw (s .list, here) (grown-more (numberAt ring width step) k numbers₀ (omega (arith, s .needs .count)));
           at = rw (add-one k) (omega (arith, s .at, suc-mul k step));
@@ -116,4 +119,4 @@ module _ {ring : List ℕ} {width step : ℕ} {numbers₀ scratch₀ numbers scr
 
   pub scratch-long : {new : List ℕ} → new ≡ putFirst ring scratch → length new ≡ length scratch₀
   scratch-long {new} e =
-      rw e (omega (arith, length-append ring (drop (length ring) scratch), length-drop (length ring) scratch, s .long, s .needs .room))
+      rw e (omega (arith, length-append ring (drop (length ring) scratch), length-drop (length ring) scratch, s .long, s .room))

@@ -1,8 +1,8 @@
 -- What private contracts say, ask and promise. No public contract rests on this.
 --
 --   standsAfter   1 where a cell stands after a later cell of its window, by the levels of the two, else 0: the tie rule of reading
---   callChecks    the checks of width, step and lists by their numbers: of the ring's cells, and of the lists' places
---   Numberable    what numbering the windows needs of a ring, a width, a step and the two lists
+--   callChecks    the checks of width, step and the list of numbers by the numbers of the ring's cells and of the list's places
+--   Numberable    what numbering the windows needs of a ring, a width, a step and the list of numbers
 --   KeptPast      a list that holds what it held from a place on, and is as long
 use Prim.Native.Nat.{ℕ, _/_, _≤_}
 use mathlib.Core.Path.{_≡_}
@@ -18,17 +18,15 @@ use Rattle.cell_run.specs.Run.{limitChecks}
 unfoldable pub standsAfter : ℕ → ℕ → ℕ
 standsAfter level later = tally (ltb level later)
 
-abbrev pub callChecks : ℕ → ℕ → ℕ → ℕ → ℕ → List (Bool × Refusal)
-callChecks n width step numbers scratch =
-    limitChecks n width step ++ (leb (n / step) numbers, RoomShort) ∷ (leb n scratch, RoomShort) ∷ []
+abbrev pub callChecks : ℕ → ℕ → ℕ → ℕ → List (Bool × Refusal)
+callChecks n width step numbers = limitChecks n width step ++ (leb (n / step) numbers, RoomShort) ∷ []
 
-pub record Numberable (ring : List ℕ) (width step : ℕ) (numbers scratch : List ℕ) : Type 0 where
+pub record Numberable (ring : List ℕ) (width step : ℕ) (numbers : List ℕ) : Type 0 where
   pub first : 1 ≤ length ring
   pub wide : width ≤ 12
   pub inside : width ≤ length ring
   pub forward : 1 ≤ step
   pub count : length ring / step ≤ length numbers
-  pub room : length ring ≤ length scratch
 
 pub record KeptPast (width : ℕ) (old new : List ℕ) : Type 0 where
   pub later : drop width new ≡ drop width old

@@ -5,13 +5,14 @@ use cell_run::Run;
 use order::Outcome;
 use order::Refusal;
 ghost use mathlib.Core.Path.{_≡_};
+ghost use mathlib.Core.Bool.{cond};
 ghost use Prim.Native.Nat.{_+_, _%_, _≤_, _<_};
 ghost use lib.ListN.{length};
 ghost use Rattle.order.specs.Refusals.{outcomeNumber, numberOf};
 ghost use Rattle.coordinates.specs.Coordinates.{coordinateOf};
 ghost use Rattle.cell_run.specs.Run.{runChecks, levelChecks};
 ghost use Rattle.window.specs.Ring.{windowOrder, windowNumber, windowAt, windowNumbers};
-ghost use Rattle.window.specs.Calls.{ring, scratchLevels, putFirst, toldWindows, windowsOf, numbersAfter, scratchAfter};
+ghost use Rattle.window.specs.Calls.{ring, scratchLevels, hasRoom, putFirst, toldWindows, windowsOf, numbersAfter, scratchAfter};
 ghost use Rattle.window.specs.Steps.{standsAfter, callChecks, Numberable, KeptPast};
 
 // How many windows were numbered, or why none was.
@@ -64,17 +65,19 @@ pub fn windows_of_levels(
     if let Outcome::Refused(refusal) = of_run {
         return WindowsAnswer::Refused(refusal);
     }
-    let checked = check_call(levels.len(), width, step, numbers.len(), scratch.len());
+    let checked = check_call(levels.len(), width, step, numbers.len());
     if let Outcome::Refused(refusal) = checked {
         return WindowsAnswer::Refused(refusal);
     }
-    number_windows(levels, width, step, numbers, scratch);
+    if !number_windows(levels, width, step, numbers, scratch) {
+        return WindowsAnswer::Refused(Refusal::RoomShort);
+    }
     WindowsAnswer::Filled(levels.len() / step)
 }
 
-// The outcome for a width and a step on a ring of n cells, and for lists of so many places.
-fn check_call(n: usize, width: usize, step: usize, numbers: usize, scratch: usize) -> Outcome
-    ensures { λ r. ⌜ outcomeNumber r ≡ numberOf (callChecks n width step numbers scratch) ⌝ }
+// The outcome for a width and a step on a ring of n cells, and for a list of numbers of so many places.
+fn check_call(n: usize, width: usize, step: usize, numbers: usize) -> Outcome
+    ensures { λ r. ⌜ outcomeNumber r ≡ numberOf (callChecks n width step numbers) ⌝ }
 {
     let limits = cell_run::check_windows(n, width, step);
     let Outcome::Done = limits else {
@@ -83,18 +86,25 @@ fn check_call(n: usize, width: usize, step: usize, numbers: usize, scratch: usiz
     if numbers < n / step {
         return Outcome::Refused(Refusal::RoomShort);
     }
-    if scratch < n {
-        return Outcome::Refused(Refusal::RoomShort);
-    }
     Outcome::Done
 }
 
-// Numbers each window. At the end the levels of the whole ring stand first in the scratch.
-fn number_windows(ring: &[u16], width: usize, step: usize, numbers: &mut [u32], scratch: &mut [u16])
-    requires { ⌜ Numberable (now ring) width step (now numbers) (now scratch) ⌝ }
-    ensures { λ _. ⌜ now (numbers .exit) ≡ putFirst (windowNumbers (now (ring .entry)) width step) (now (numbers .entry)) ⌝ }
-    ensures { λ _. ⌜ now (scratch .exit) ≡ putFirst (scratchLevels (now (ring .entry)) width step) (now (scratch .entry)) ⌝ }
+// Whether the scratch is long enough; where it is, each window is numbered. At the end the levels of the whole ring stand first in the scratch.
+fn number_windows(
+    ring: &[u16],
+    width: usize,
+    step: usize,
+    numbers: &mut [u32],
+    scratch: &mut [u16],
+) -> bool
+    requires { ⌜ Numberable (now ring) width step (now numbers) ⌝ }
+    ensures { λ r. ⌜ r ≡ hasRoom (scratchLevels (now (ring .entry)) width step) (now (scratch .entry)) ⌝ }
+    ensures { λ r. ⌜ now (numbers .exit) ≡ cond r (putFirst (windowNumbers (now (ring .entry)) width step) (now (numbers .entry))) (now (numbers .entry)) ⌝ }
+    ensures { λ r. ⌜ now (scratch .exit) ≡ cond r (putFirst (scratchLevels (now (ring .entry)) width step) (now (scratch .entry))) (now (scratch .entry)) ⌝ }
 {
+    if scratch.len() < ring.len() {
+        return false;
+    }
     let count = ring.len() / step;
     let mut start = 0;
     let mut k = 0;
@@ -104,6 +114,7 @@ fn number_windows(ring: &[u16], width: usize, step: usize, numbers: &mut [u32], 
         k += 1;
     }
     put_levels(ring, scratch);
+    true
 }
 
 // The number of the window that starts at a place. A window that goes round the end of the ring is put together at the front of the scratch.

@@ -26,14 +26,7 @@ returns-2 : tie.Need-returns-2
 returns-2 c = sym (later-decide _ _ (passed (c .before)) ∙ check-fails _ _ (lt-leb _ _ (c .if1 .taken)))
 
 returns-3 : tie.Need-returns-3
-returns-3 c =
-    let d = c .before in
-    sym (later-decide _ _ (passed (d .before)) ∙ check-holds _ _ (le-leb _ _ (d .if1 .left)) ∙ check-fails _ _ (lt-leb _ _ (c .if2 .taken)))
-
-returns-4 : tie.Need-returns-4
-returns-4 c =
-    let d = c .before in
-    sym (later-decide _ _ (passed (d .before)) ∙ check-holds _ _ (le-leb _ _ (d .if1 .left)) ∙ check-holds _ _ (le-leb _ _ (c .if2 .left)) ∙ all-hold)
+returns-3 c = sym (later-decide _ _ (passed (c .before)) ∙ check-holds _ _ (le-leb _ _ (c .if1 .left)) ∙ all-hold)
 
 pub check-call-spec : {M : Type 1} → statement M
 check-call-spec =
@@ -45,5 +38,4 @@ check-call-spec =
     returns
     div-if1
     returns-2
-    returns-3
-    returns-4)
+    returns-3)

@@ -1,9 +1,12 @@
 -- `window::number_windows` meets its contract, by the invariant of Numbering.
 -- Assumes nothing.
 use borrow.Author.Needs.{needs}
+use borrow.Author.Tests.{le-leb, lt-leb}
+use mathlib.Core.Path.{refl, sym}
 use Prim.Native.Nat.{_-_, _/_}
 use native.Mathlib.Omega.{arith}
 use lib.ListN.{length}
+use Rattle.window.specs.Calls.{scratchLevels}
 use Rattle.window.proofs.Numbering.{Numbering, begin, numbers-long, has-room, start-inside, next, numbers-done, scratch-done, scratch-long}
 use Rattle.window.proofs.number_windows.Statement.{statement}
 use Rattle.window.proofs.number_windows.Tie as tie
@@ -14,11 +17,15 @@ Inv-loop ring width step numbers₀ scratch₀ count start₀ k₀ numbers scrat
 abbrev μ-loop : tie.MeasureT-loop
 μ-loop ring width step numbers₀ scratch₀ count start₀ k₀ numbers scratch start k = length ring / step - k
 
+returns : tie.Need-returns Inv-loop μ-loop
+unfolding scratchLevels
+returns c = (sym (lt-leb _ _ (c .if1 .taken)), (refl, refl))
+
 div-count : tie.Need-div-count Inv-loop μ-loop
 div-count c = search needs
 
 loop-holds : tie.Need-loop-holds Inv-loop μ-loop
-loop-holds c = begin (c .before .before .before .pre)
+loop-holds c = begin (c .before .before .before .before .pre) (c .if1 .left)
 
 number-at-requires : tie.Need-number-at-requires Inv-loop μ-loop
 number-at-requires c κs =
@@ -46,7 +53,7 @@ loop-again c =
     next (c .before .before .before .before .before .loop .inv) (c .before .before .before .before .loop-test .taken) (call .0) (call .1)
 
 put-levels-requires : tie.Need-put-levels-requires Inv-loop μ-loop
-put-levels-requires c κs = let s = c .before .before .loop .inv in omega (arith, s .long, s .needs .room)
+put-levels-requires c κs = let s = c .before .before .loop .inv in omega (arith, s .long, s .room)
 
 same-length : tie.Need-same-length Inv-loop μ-loop
 same-length c = numbers-long (c .before .before .before .before .before .loop .inv)
@@ -54,10 +61,11 @@ same-length c = numbers-long (c .before .before .before .before .before .loop .i
 same-length-2 : tie.Need-same-length-2 Inv-loop μ-loop
 same-length-2 c = scratch-long (c .before .before .before .before .before .loop .inv) (c .before .before .put-levels .ensures)
 
-returns : tie.Need-returns Inv-loop μ-loop
-returns c =
+returns-2 : tie.Need-returns-2 Inv-loop μ-loop
+unfolding scratchLevels
+returns-2 c =
     let s = c .before .before .before .before .before .loop .inv in
-    (numbers-done s (c .before .before .before .before .loop-test .left), scratch-done s (c .before .before .put-levels .ensures))
+    (sym (le-leb _ _ (s .room)), (numbers-done s (c .before .before .before .before .loop-test .left), scratch-done s (c .before .before .put-levels .ensures)))
 
 pub number-windows-spec : {M : Type 1} → statement M
 number-windows-spec =
@@ -65,6 +73,7 @@ number-windows-spec =
     (tie.spec
     Inv-loop
     μ-loop
+    returns
     div-count
     loop-holds
     number-at-requires
@@ -77,4 +86,4 @@ number-windows-spec =
     put-levels-requires
     same-length
     same-length-2
-    returns)
+    returns-2)
