@@ -1,4 +1,4 @@
--- The words of "a ring that is turned".
+-- A ring that is turned.
 --
 --   turned k xs    the list from its element k + 1 on, and then its first k elements: a ring that is read from another start
 use Prim.Native.Nat.{ℕ}
