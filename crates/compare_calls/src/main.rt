@@ -62,9 +62,9 @@ fn main() {
     r = part(r, b"windows, forged runs ", 32, windows::along(32, 4096));
     // 0 to 130 cells, 15 widths, 14 steps: 0, 13.
     r = part(r, b"limits of windows to ", 130, windows::every_limit());
-    // 13 calls, 2 comparisons each: one that fits is done, 5 huge widths and 5 huge steps are refused 13, and a list without a place 15. Then 15
-    // of limits alone: one of the huge lengths goes by 3, all else is refused 13.
-    r = part(r, b"windows, limits ", 13, windows::limits());
+    // 13 calls, 2 comparisons each: one that fits is done, 5 huge widths and 5 huge steps are refused 13, and two with a list without a place 15.
+    // Then 15 of limits alone: one of the huge lengths goes by 3, all else is refused 13.
+    r = part(r, b"windows, huge limits ", 13, windows::limits());
     // Lists of 0 to 130 levels, 15 widths, 14 steps: 0, 13.
     r = part(r, b"windows, lists of levels to ", 130, windows::slices());
     report::total(r);

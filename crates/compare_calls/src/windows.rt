@@ -81,9 +81,9 @@ fn length(k: usize) -> usize {
     LENGTHS[k % 32]
 }
 
-// Record number k. 0 to 31 are runs, with the m lowest levels, or in every second run the m highest, so that few of them are often equal. The
-// later ones are forged, and mostly no runs, each with one fault: a wrong length, or another level at the first, the last, the next or the
-// last place of all.
+// Record number k. 0 to 31 are runs, with the m lowest levels, or in every second run the m highest: where m is small, many are equal. The later
+// ones are forged, each with one change, and mostly no runs: a wrong length, or another level at the first, the last, the next or the last place
+// of all.
 fn record(k: usize, m: usize) -> Run {
     let n = length(k);
     let turned: usize = if k % 2 == 0 { 0 } else { 4095 };

@@ -143,6 +143,7 @@ fn check_windows(run: Run, width: usize, step: usize, lists: Lists) -> u8 {
     if check_limits(run.len, width, step) != 0 {
         return 13;
     }
+    // never so here: it makes the division safe
     if step == 0 {
         return 13;
     }
