@@ -80,12 +80,14 @@ cells-off {n} {c} {cs} s = off-all n c cs (first-low s) (cells-tail s) (first-ne
 cells-apart : {n : ℕ} (m : ℕ) (cs : List ℕ) → n ≤ m → CellsOf n cs → Apart m (singles cs)
 unfolding singles Apart
 cells-apart m [] l s = tt
-cells-apart m (c ∷ cs) l s = (((omega (arith, first-low s, first-high s), cells-off s), tt), cells-apart m cs l (cells-tail s))
+cells-apart m (c ∷ cs) l s = (((omega (arith, first-low s, first-high s), (tt, cells-off s)), tt), cells-apart m cs l (cells-tail s))
 
--- ---- an order shows after its push-up
+-- the cells of an order stand apart, so that it shows after its push-up
+pub order-apart : (n : ℕ) (xs ls : List ℕ) → isOrder n xs ≡ true → n ≤ length ls → Apart (length ls) (singles xs)
+order-apart n xs ls e l = cells-apart (length ls) xs l (order-cells n xs (order-true n xs e))
 
 pub order-shows : (gap n : ℕ) (xs ls : List ℕ) → isOrder n xs ≡ true → n ≤ length ls → Shows gap (singles xs) (raise gap (singles xs) ls)
-order-shows gap n xs ls e l = raise-shows gap (singles xs) ls (cells-apart (length ls) xs l (order-cells n xs (order-true n xs e)))
+order-shows gap n xs ls e l = raise-shows gap (singles xs) ls (order-apart n xs ls e l)
 
 -- an order shows when the levels fall along it, each time by the gap or more: with gap 1, strictly
 unfoldable pub Falling : ℕ → List ℕ → List ℕ → Type 0

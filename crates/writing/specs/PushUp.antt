@@ -13,7 +13,7 @@
 --                       gap above the highest new level of the rank just below it. For an order: the lowest cell keeps its level; each next cell
 --                       takes the larger of its old level and one more than the new level of the cell just below it
 --   pushOf c old new    the push of a cell that really rises, with its new level; none of one that keeps its level
---   rankPushes old f r  the pushes of the cells r, which rise to f
+--   rankPushes old f r  the pushes of the cells r, which rise to f: the cell listed last is pushed first, as the rank listed last is
 --   pushes g rs ls      the push program, from low to high
 use Prim.Native.Nat.{ℕ, _+_, _≤_, max}
 use mathlib.Core.Bool.{cond}
@@ -55,7 +55,7 @@ pushOf c old new = cond (ltb old new) (record { cell = record { 0 = c }; level =
 
 unfoldable pub rankPushes : List ℕ → ℕ → List ℕ → List Push
 rankPushes old f [] = []
-rankPushes old f (c ∷ cs) = pushOf c (level old c) (max (level old c) f) ++ rankPushes old f cs
+rankPushes old f (c ∷ cs) = rankPushes old f cs ++ pushOf c (level old c) (max (level old c) f)
 
 unfoldable pub pushes : ℕ → List (List ℕ) → List ℕ → List Push
 pushes g [] ls = []
