@@ -10,8 +10,8 @@ use naive::answers::Answer;
 use order::Cell;
 use order::Order;
 use push_list::WrittenInto;
-use writing::Push;
-use writing::Written;
+use push_up::Push;
+use push_up::Written;
 
 // The answer, and the list that was lent.
 struct Lent {

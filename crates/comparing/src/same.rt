@@ -19,8 +19,8 @@ use order::Order;
 use order::OrderAnswer;
 use order::Outcome;
 use order::Refusal;
-use writing::Push;
-use writing::Written;
+use push_up::Push;
+use push_up::Written;
 
 // The number of a refusal, by document 01's table.
 pub fn refusal(r: Refusal) -> u8 {
@@ -244,7 +244,7 @@ pub fn changed(t: Tally, a: Changed, b: Answer) -> Tally {
         group,
         pulses: 0,
         count: 0,
-        pushes: writing::zero_pushes(),
+        pushes: push_up::zero_pushes(),
     };
     written(t, w, b)
 }

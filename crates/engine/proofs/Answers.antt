@@ -26,7 +26,7 @@ use Rattle.code.specs.Symbols.{wordOf, Reading, noReading, readingAt, codewordC
 use Rattle.code.proofs.Codewords.{symbol-order}
 use Rattle.group.specs.declared.Group.{Group}
 use Rattle.group.specs.Record.{groupChecks}
-use Rattle.writing.specs.WriteAnswer.{writeChecks, pushChecks, pushed, unpushed, writeOf}
+use Rattle.push_up.specs.WriteAnswer.{writeChecks, pushChecks, pushed, unpushed, writeOf}
 use Rattle.sensing.specs.Sense.{senseOf}
 use Rattle.group.proofs.Checks.{checked-size}
 use Rattle.sensing.proofs.Sensed.{sensed-order}

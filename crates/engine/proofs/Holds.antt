@@ -32,11 +32,11 @@ use Rattle.code.specs.Symbols.{wordOf, verdictAt, readingAt, decodeOf}
 use Rattle.code.proofs.Symbols.{symbol-reads}
 use Rattle.group.specs.declared.Group.{Group}
 use Rattle.group.specs.Record.{groupChecks}
-use Rattle.writing.specs.WriteAnswer.{Program, pushChecks, pushed, unpushed}
+use Rattle.push_up.specs.WriteAnswer.{Program, pushChecks, pushed, unpushed}
 use Rattle.group.proofs.Checks.{checked-size}
 use Rattle.sensing.proofs.Sensed.{sensed-order}
 use Rattle.group.proofs.Groups.{IsGroup, told-accepted}
-use Rattle.writing.proofs.Writes.{group-pushed, push-group}
+use Rattle.push_up.proofs.Writes.{group-pushed, push-group}
 use Rattle.sensing.proofs.Written.{raised-sensed}
 use Rattle.engine.specs.ReadStore.{sensedOrder, placeRead, readChecks, readOf, storeOf, alikeOf}
 use Rattle.engine.proofs.Answers.{mark-holds, read-number, read-done, read-decoded, word-order, alike-done}

@@ -22,7 +22,7 @@ use Rattle.code.specs.Symbols.{wordOf, Reading, noReading, readingAt}
 use Rattle.group.specs.declared.Group.{Group}
 use Rattle.group.specs.Record.{groupChecks}
 use Rattle.sensing.specs.Sense.{sensed}
-use Rattle.writing.specs.WriteAnswer.{Program, pushChecks, pushed, unpushed}
+use Rattle.push_up.specs.WriteAnswer.{Program, pushChecks, pushed, unpushed}
 use Rattle.engine.specs.declared.ReadAnswer.{ReadAnswer}
 use Rattle.engine.specs.declared.ReadAnswer.the-variants as read
 use Rattle.engine.specs.declared.AlikeAnswer.{AlikeAnswer}

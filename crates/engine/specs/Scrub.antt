@@ -19,8 +19,8 @@ use Rattle.distance.specs.Distance.{exchange}
 use Rattle.code.specs.declared.Verdict.{Verdict}
 use Rattle.code.specs.Symbols.{Reading}
 use Rattle.group.specs.declared.Group.{Group}
-use Rattle.writing.specs.declared.Push.{Push}
-use Rattle.writing.specs.WriteAnswer.{Program, pushArray, pushChecks, pushed}
+use Rattle.push_up.specs.declared.Push.{Push}
+use Rattle.push_up.specs.WriteAnswer.{Program, pushArray, pushChecks, pushed}
 use Rattle.engine.specs.declared.Judged.{Judged}
 use Rattle.engine.specs.declared.Judged.the-variants.{Nothing, By}
 use Rattle.engine.specs.declared.Applied.{Applied}

@@ -6,14 +6,14 @@ use code::Verdict;
 use group::Group;
 use order::Outcome;
 use order::Refusal;
-use writing::Push;
-use writing::Written;
+use push_up::Push;
+use push_up::Written;
 ghost use mathlib.Core.Path.{_≡_};
 ghost use mathlib.Core.Bool.{false};
 ghost use mathlib.Core.Option.{some};
 ghost use Rattle.order.specs.Refusals.{outcomeNumber, ifDone};
 ghost use Rattle.code.specs.Symbols.{toldDecode};
-ghost use Rattle.writing.specs.WriteAnswer.{toldWritten};
+ghost use Rattle.push_up.specs.WriteAnswer.{toldWritten};
 ghost use Rattle.engine.specs.ReadStore.{toldRead, readOf, storeOf, toldAlike, alikeOf};
 ghost use Rattle.engine.specs.Scrub.{toldApplied, quiet, programmedStep, afterRead, scrubOf};
 
@@ -80,9 +80,9 @@ pub fn store(g: Group, symbol: u32) -> Written
     let Outcome::Done = found else {
         let checked = group::check(g);
         let Outcome::Done = checked else {
-            return writing::unwritten(checked, g);
+            return push_up::unwritten(checked, g);
         };
-        return writing::unwritten(found, g);
+        return push_up::unwritten(found, g);
     };
     let order = word.order;
     writing::write(g, order)
@@ -186,7 +186,7 @@ pub fn unchanged(outcome: Outcome, g: Group) -> Applied
         verdict: Judged::Nothing,
         pulses: 0,
         count: 0,
-        pushes: writing::zero_pushes(),
+        pushes: push_up::zero_pushes(),
     }
 }
 
@@ -203,7 +203,7 @@ pub fn from_read(g: Group, answer: ReadAnswer) -> Applied
             verdict: Judged::By(verdict),
             pulses: 0,
             count: 0,
-            pushes: writing::zero_pushes(),
+            pushes: push_up::zero_pushes(),
         },
     }
 }

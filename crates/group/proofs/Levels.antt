@@ -9,7 +9,7 @@ use native.Mathlib.Nat.{le-refl, le-trans}
 use native.Mathlib.Omega.{arith}
 use lib.Dec.{leb}
 use lib.ListN.{length, getD, set}
-use lib.Seq.{getD-set-same, getD-set-other}
+use lib.Seq.{set-getD, getD-set-same, getD-set-other}
 use borrow.Author.Tests.{leb-true, le-leb}
 use Rattle.order.proofs.Cells.{both}
 use Rattle.group.specs.Levels.{level, put, AtMost, empty, more, atMost, rises, leaked}
@@ -23,6 +23,11 @@ level-put ls c v h = getD-set-same ls (c - 1) v 0 h
 pub level-put-other : (ls : List ℕ) (c d v : ℕ) → d - 1 ≢ c - 1 → level (put ls c v) d ≡ level ls d
 unfolding level put
 level-put-other ls c d v h = getD-set-other ls (c - 1) (d - 1) v 0 h
+
+-- a cell set to its own level
+pub put-same : (ls : List ℕ) (c : ℕ) → put ls c (level ls c) ≡ ls
+unfolding put level
+put-same ls c = set-getD ls (c - 1) 0
 
 -- a bound from below holds still after a cell is set to no less than it
 getD-set-least : (xs : List ℕ) (i j v f : ℕ) → f ≤ v → f ≤ getD xs j 0 → f ≤ getD (set xs i v) j 0

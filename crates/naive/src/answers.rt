@@ -1,7 +1,7 @@
 // The answers of the calls on groups.
 use group::Group;
 use order::Cell;
-use writing::Push;
+use push_up::Push;
 
 // The answer of every call. `judged` says that there is a verdict: clean at place 0, else put right at that place. The pushes stand from
 // low to high, and the pulses are the sum of their rises.

@@ -24,13 +24,13 @@ use Rattle.code.specs.Words.{wordAt}
 use Rattle.code.specs.Symbols.{wordOf, Reading, noReading}
 use Rattle.group.specs.declared.Group.{Group}
 use Rattle.group.specs.Levels.{put, AtMost, rises, leaked}
-use Rattle.writing.specs.PushUp.{singles, Shows}
+use Rattle.push_up.specs.PushUp.{singles, Shows}
 use Rattle.group.specs.Record.{groupChecks, withLevels, withCaps, erased}
-use Rattle.writing.specs.WriteAnswer.{Program, writeChecks, pushArray, raised, fits, pushChecks, pushed, unpushed, writeOf}
+use Rattle.push_up.specs.WriteAnswer.{Program, writeChecks, pushArray, raised, fits, pushChecks, pushed, unpushed, writeOf}
 use Rattle.group.specs.Changes.{cellChecks, wearChecks, leakOf, wearOf, eraseOf}
 use Rattle.group.proofs.Levels.{at-most-refl, at-most-true, rises-down, leaked-below}
 use Rattle.group.proofs.Groups.{by-number, IsGroup, leak-group, wear-group, erase-group}
-use Rattle.writing.proofs.Writes.{push-held, pushes-few, write-group, raised-shows}
+use Rattle.push_up.proofs.Writes.{push-held, pushes-few, write-group, raised-shows}
 use Rattle.push_list.specs.LentWrite.{intoChecks, writeIntoOf, carriedOf}
 use Rattle.push_list.proofs.Written.{into-group}
 use Rattle.sensing.proofs.Sensed.{sensed-order}

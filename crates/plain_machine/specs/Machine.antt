@@ -24,7 +24,7 @@ use Rattle.code.specs.Symbols.{wordOf}
 use Rattle.group.specs.declared.Group.{Group}
 use Rattle.group.specs.Record.{groupChecks}
 use Rattle.group.specs.Changes.{cellChecks, wearChecks, leakOf, wearOf, eraseOf}
-use Rattle.writing.specs.WriteAnswer.{Program, pushChecks, writeOf}
+use Rattle.push_up.specs.WriteAnswer.{Program, pushChecks, writeOf}
 use Rattle.push_list.specs.LentWrite.{writeIntoOf}
 use Rattle.engine.specs.ReadStore.{readChecks, readOf, storeOf}
 use Rattle.engine.specs.Scrub.{Step, quiet, programmedStep, afterRead, wordFound, scrubOf}

@@ -8,10 +8,10 @@ use group::Group;
 use order::Cell;
 use order::Order;
 use order::Outcome;
-use writing::Written;
+use push_up::Written;
 ghost use mathlib.Core.Path.{_≡_};
 ghost use Rattle.group.specs.Changes.{toldChanged};
-ghost use Rattle.writing.specs.WriteAnswer.{toldWritten};
+ghost use Rattle.push_up.specs.WriteAnswer.{toldWritten};
 ghost use Rattle.engine.specs.Scrub.{toldApplied};
 ghost use Rattle.plain_machine.specs.Machine.{afterProgram, afterChange, applyOf};
 

@@ -28,7 +28,7 @@ use denote.Triple.Call.{calls-at}
 use denote.Triple.Clauses.{Lasts, lasts}
 use denote.Triple.Statement.{Contract, Triple}
 use denote.Triple.Walked.{says}
-use Rattle.writing.specs.declared.Push.{Push}
+use Rattle.push_up.specs.declared.Push.{Push}
 use Rattle.push_list.specs.LentWrite.{filled}
 use Rattle.push_list.proofs.Pushes.{R, Pushes, all-make}
 use Rattle.push_list.proofs.Walking.{Callee}

@@ -5,7 +5,7 @@ use mathlib.Core.Path.{_≡_, refl, ap}
 use mathlib.Core.List.{List, [], _∷_}
 use native.Mathlib.Nat.{not-suc-le-zero, le-of-suc-le-suc}
 use lib.ListN.{length, getD, set}
-use Rattle.writing.specs.declared.Push.{Push}
+use Rattle.push_up.specs.declared.Push.{Push}
 use Rattle.push_list.specs.LentWrite.{filled}
 
 -- push i stored at place i of a list with i pushes in front gives the list with one more

@@ -16,11 +16,11 @@ use Rattle.order.specs.Order.{listed}
 use Rattle.order.proofs.Refusals.{check-held, all-held}
 use Rattle.order.proofs.Check.{order-parts}
 use Rattle.group.specs.declared.Group.{Group}
-use Rattle.writing.specs.declared.Push.{Push}
+use Rattle.push_up.specs.declared.Push.{Push}
 use Rattle.group.specs.Record.{groupChecks}
-use Rattle.writing.specs.WriteAnswer.{Program, writeOf}
+use Rattle.push_up.specs.WriteAnswer.{Program, writeOf}
 use Rattle.group.proofs.Checks.{checked-size}
-use Rattle.writing.proofs.Writes.{pushes-few}
+use Rattle.push_up.proofs.Writes.{pushes-few}
 use Rattle.push_list.specs.LentWrite.{intoChecks, writeIntoOf, filled, listAfter}
 
 -- a number is 0, or another

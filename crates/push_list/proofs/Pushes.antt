@@ -22,9 +22,9 @@ use denote.Slice.{finally, res-finally, heres, codedHoleys}
 use denote.Signature.{Slot, plain}
 use denote.Signature.Array.{arrayOf}
 use denote.Struct.Laws as LL
-use Rattle.writing.specs.declared.Push.{Push}
-use Rattle.writing.proofs.Push as P
-use Rattle.writing.proofs.Push.Laws as P′
+use Rattle.push_up.specs.declared.Push.{Push}
+use Rattle.push_up.proofs.Push as P
+use Rattle.push_up.proofs.Push.Laws as P′
 
 abbrev pub R : RattleType
 R = P.the-row

@@ -12,12 +12,12 @@ use Rattle.order.specs.Refusals.{numberOf, Told, answer}
 use Rattle.order.specs.Order.{listed}
 use Rattle.order.proofs.Refusals.{check-held, all-held, later-decide, check-fails, told-refused}
 use Rattle.group.specs.declared.Group.{Group}
-use Rattle.writing.specs.declared.Push.{Push}
+use Rattle.push_up.specs.declared.Push.{Push}
 use Rattle.group.specs.Record.{groupChecks}
-use Rattle.writing.specs.PushUp.{singles, pushes}
-use Rattle.writing.specs.WriteAnswer.{Program, pushed, unpushed, writeOf}
+use Rattle.push_up.specs.PushUp.{singles, pushes}
+use Rattle.push_up.specs.WriteAnswer.{Program, pushed, unpushed, writeOf}
 use Rattle.group.proofs.Groups.{IsGroup}
-use Rattle.writing.proofs.Writes.{group-pushed}
+use Rattle.push_up.proofs.Writes.{group-pushed}
 use Rattle.push_list.specs.LentWrite.{intoChecks, writeIntoOf, filled, listAfter}
 use Rattle.push_list.proofs.Plans.{either, filledBy, plan-list, room-written}
 

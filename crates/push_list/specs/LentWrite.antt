@@ -18,9 +18,9 @@ use Rattle.order.specs.declared.Refusal.the-variants.{ListShort, NoOrder}
 use Rattle.order.specs.Refusals.{outcomeNumber, ifDone, Told, answer}
 use Rattle.order.specs.Order.{listed, isOrderOf}
 use Rattle.group.specs.declared.Group.{Group}
-use Rattle.writing.specs.declared.Push.{Push}
+use Rattle.push_up.specs.declared.Push.{Push}
 use Rattle.group.specs.Record.{groupChecks}
-use Rattle.writing.specs.WriteAnswer.{Program, pushChecks, pushed, unpushed}
+use Rattle.push_up.specs.WriteAnswer.{Program, pushChecks, pushed, unpushed}
 use Rattle.push_list.specs.declared.WrittenInto.{WrittenInto}
 
 -- ---- the answer

@@ -2,7 +2,7 @@
 --
 --   toldPlan p          what a plan says: its number, and what a write carries, the pushes included
 use Rattle.order.specs.Refusals.{outcomeNumber, Told}
-use Rattle.writing.specs.WriteAnswer.{Program}
+use Rattle.push_up.specs.WriteAnswer.{Program}
 use Rattle.push_list.specs.declared.Plan.{Plan}
 
 abbrev pub toldPlan : Plan → Told Program

@@ -6,12 +6,12 @@ use group::Group;
 use order::Order;
 use order::Outcome;
 use order::Refusal;
-use writing::Push;
-use writing::Written;
+use push_up::Push;
+use push_up::Written;
 ghost use mathlib.Core.Path.{_≡_};
 ghost use Prim.Native.Nat.{_≤_};
 ghost use lib.ListN.{length};
-ghost use Rattle.writing.specs.WriteAnswer.{toldWritten};
+ghost use Rattle.push_up.specs.WriteAnswer.{toldWritten};
 ghost use Rattle.push_list.specs.LentWrite.{writeIntoOf, carriedOf, toldInto, filled, listAfter};
 ghost use Rattle.push_list.specs.Steps.{toldPlan};
 
@@ -53,10 +53,10 @@ pub fn write_with_room(g: Group, target: Order, room: usize) -> Written
 {
     let checked = group::check(g);
     let Outcome::Done = checked else {
-        return writing::unwritten(checked, g);
+        return push_up::unwritten(checked, g);
     };
     if room < g.n - 1 {
-        return writing::unwritten(Outcome::Refused(Refusal::ListShort), g);
+        return push_up::unwritten(Outcome::Refused(Refusal::ListShort), g);
     }
     writing::write(g, target)
 }

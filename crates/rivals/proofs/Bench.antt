@@ -16,12 +16,12 @@ use Rattle.code.specs.declared.Verdict.the-variants.{Clean, PutRight}
 use Rattle.code.specs.Words.{joined, select, same, indexOf, vectorsFrom, vectors, words, K, wordAt, wordNumber, symbolOf}
 use Rattle.code.specs.Symbols.{wordOf, readingAt}
 use Rattle.group.specs.declared.Group.{Group}
-use Rattle.writing.specs.declared.Push.{Push}
+use Rattle.push_up.specs.declared.Push.{Push}
 use Rattle.group.specs.Levels.{level, put, atMost, rises, leaked}
 use Rattle.group.specs.Record.{allAtMost, isRow}
-use Rattle.writing.specs.PushUp.{singles, top, floorOver, lift, raise, pushOf, rankPushes, pushes}
+use Rattle.push_up.specs.PushUp.{singles, top, floorOver, lift, raise, pushOf, rankPushes, pushes}
 use Rattle.sensing.specs.Sense.{above, insert, sorted, sensed}
-use Rattle.writing.specs.WriteAnswer.{raised, fits, pushed}
+use Rattle.push_up.specs.WriteAnswer.{raised, fits, pushed}
 use Rattle.group.specs.Changes.{openOf, leakOf}
 use Rattle.plain_machine.specs.declared.Kind.{Kind}
 use Rattle.plain_machine.specs.declared.Kind.the-variants.{Store, Scrub, Leak, Read}

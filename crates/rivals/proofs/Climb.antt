@@ -13,10 +13,10 @@ use Rattle.order.specs.Cells.{count, placeFrom, isOrder}
 use Rattle.order.proofs.Cells.{order-true, order-count, lt-cases, eq-cases, tally-eq, tally-ne}
 use Rattle.order.proofs.Places.{Stands, stands}
 use Rattle.group.specs.Levels.{level}
-use Rattle.writing.specs.PushUp.{singles, top, floorOver, lift, raise}
+use Rattle.push_up.specs.PushUp.{singles, top, floorOver, lift, raise}
 use Rattle.group.proofs.Levels.{level-put, at-most-length}
-use Rattle.writing.proofs.Minimal.{raise-above}
-use Rattle.writing.proofs.Orders.{CellsOf, cells-tail, first-low, first-high, first-new, order-shows, Falling, shows-falling}
+use Rattle.push_up.proofs.Minimal.{raise-above}
+use Rattle.push_up.proofs.Orders.{CellsOf, cells-tail, first-low, first-high, first-new, order-shows, Falling, shows-falling}
 
 -- ---- places
 

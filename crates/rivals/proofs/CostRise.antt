@@ -20,11 +20,11 @@ use Rattle.cost.specs.Cost.{displacement, cost}
 use Rattle.cost.proofs.Signs.{≤ℤ-antisym, sub-rise, sub-most}
 use Rattle.cost.proofs.Costs.{cost-largest}
 use Rattle.group.specs.Levels.{level}
-use Rattle.writing.specs.PushUp.{singles, top}
+use Rattle.push_up.specs.PushUp.{singles, top}
 use Rattle.group.proofs.Levels.{at-most-level}
-use Rattle.writing.proofs.Minimal.{raise-above}
-use Rattle.writing.proofs.Orders.{CellsOf, order-cells}
-use Rattle.writing.proofs.Stairs.{stairs, stairs-at}
+use Rattle.push_up.proofs.Minimal.{raise-above}
+use Rattle.push_up.proofs.Orders.{CellsOf, order-cells}
+use Rattle.push_up.proofs.Stairs.{stairs, stairs-at}
 use Rattle.rivals.specs.Rise.{topLevel, written, Staircase}
 use Rattle.rivals.proofs.Climb.{listed-range, Peak, raise-peak, cell-stands, first-highest}
 

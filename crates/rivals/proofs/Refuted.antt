@@ -17,10 +17,10 @@ use Rattle.order.specs.Order.{cellNumbers, isOrderOf, orderRecord}
 use Rattle.coordinates.specs.Coordinates.{coordinatesTo, coordinateOf}
 use Rattle.decoder.specs.Decoding.{weight, leaves, isCodeword, firstBelow, correction}
 use Rattle.group.specs.Levels.{level, put, AtMost, atMost, rises}
-use Rattle.writing.specs.PushUp.{singles, top, floorOver, Reach, Shows, lift, raise}
+use Rattle.push_up.specs.PushUp.{singles, top, floorOver, Reach, Shows, lift, raise}
 use Rattle.group.specs.declared.Group.{Group}
 use Rattle.group.specs.Record.{allAtMost, isRow, opened, changed, withLevels}
-use Rattle.writing.specs.WriteAnswer.{raised, fits, pushed, writeOf}
+use Rattle.push_up.specs.WriteAnswer.{raised, fits, pushed, writeOf}
 use Rattle.group.specs.Changes.{openOf, wearOf}
 use Rattle.sensing.specs.Sense.{above, insert, sorted, sensed}
 use Rattle.engine.specs.ReadStore.{readOf}

@@ -28,12 +28,12 @@ use Rattle.coordinates.proofs.RoundTrip.{order-of-any}
 use Rattle.code.specs.Words.{K, wordAt}
 use Rattle.group.specs.declared.Group.{Group}
 use Rattle.group.specs.Levels.{level, put, atMost}
-use Rattle.writing.specs.PushUp.{singles, top, floorOver, lift, raise}
+use Rattle.push_up.specs.PushUp.{singles, top, floorOver, lift, raise}
 use Rattle.group.specs.Record.{allAtMost, isRow, groupChecks, opened}
-use Rattle.writing.specs.WriteAnswer.{raised, fits, pushChecks, writeOf}
+use Rattle.push_up.specs.WriteAnswer.{raised, fits, pushChecks, writeOf}
 use Rattle.group.specs.Changes.{wearOf}
-use Rattle.writing.proofs.Minimal.{Each}
-use Rattle.writing.proofs.Stairs.{stairs, zeros-under, length-stairs, stairs-fit}
+use Rattle.push_up.proofs.Minimal.{Each}
+use Rattle.push_up.proofs.Stairs.{stairs, zeros-under, length-stairs, stairs-fit}
 use Rattle.engine.proofs.Scrubs.{store-scrubs}
 use Rattle.plain_machine.specs.declared.Kind.{Kind}
 use Rattle.plain_machine.specs.declared.Kind.the-variants.{Write, WriteInto, Store, Scrub, Leak, Wear, Erase, Read}

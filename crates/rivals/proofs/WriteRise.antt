@@ -23,11 +23,11 @@ use Rattle.cost.proofs.Costs.{rank-high}
 use Rattle.group.specs.declared.Group.{Group}
 use Rattle.group.specs.Levels.{AtMost}
 use Rattle.group.specs.Record.{groupChecks, opened, programmed}
-use Rattle.writing.specs.WriteAnswer.{raised, pushed, writeOf}
+use Rattle.push_up.specs.WriteAnswer.{raised, pushed, writeOf}
 use Rattle.group.proofs.LevelRows.{row-below, full-row}
 use Rattle.group.proofs.Checks.{rules-hold, checked-size}
-use Rattle.writing.proofs.Stairs.{stairs, at-most-tabulate, length-stairs, stairs-low, stairs-fit}
-use Rattle.writing.proofs.Writes.{write-accepted}
+use Rattle.push_up.proofs.Stairs.{stairs, at-most-tabulate, length-stairs, stairs-low, stairs-fit}
+use Rattle.push_up.proofs.Writes.{write-accepted}
 use Rattle.rivals.proofs.Climb.{cell-stands}
 use Rattle.rivals.specs.Rise.{topLevel, written, Staircase}
 use Rattle.rivals.proofs.CostRise.{stairs-fall, cost-is-rise}

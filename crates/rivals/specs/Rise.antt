@@ -9,7 +9,7 @@ use mathlib.Core.List.{List}
 use lib.ListN.{getD}
 use Rattle.order.specs.Cells.{tabulate}
 use Rattle.group.specs.Levels.{level}
-use Rattle.writing.specs.PushUp.{singles, top, raise}
+use Rattle.push_up.specs.PushUp.{singles, top, raise}
 
 unfoldable pub topLevel : ℕ → List ℕ → ℕ
 topLevel n ls = top (tabulate n suc) ls

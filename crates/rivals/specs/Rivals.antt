@@ -36,7 +36,7 @@ use lib.ListN.{replicate}
 use Rattle.order.specs.Refusals.{numberOf, ifDone, Told}
 use Rattle.group.specs.declared.Group.{Group}
 use Rattle.group.specs.Levels.{put, AtMost, rises, leaked}
-use Rattle.writing.specs.PushUp.{singles, Shows}
+use Rattle.push_up.specs.PushUp.{singles, Shows}
 use Rattle.group.specs.Changes.{openOf}
 use Rattle.plain_machine.specs.declared.Kind.{Kind}
 use Rattle.plain_machine.specs.declared.Kind.the-variants.{Write, WriteInto, Store, Scrub, Leak, Wear, Erase, Read}

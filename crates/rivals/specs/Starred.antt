@@ -36,8 +36,8 @@ use Rattle.cost.specs.Cost.{displacementsOf, costOf}
 use Rattle.code.specs.declared.Verdict.the-variants.{PutRight}
 use Rattle.code.specs.Symbols.{Reading, codewordOf, decodeOf}
 use Rattle.group.specs.declared.Group.{Group}
-use Rattle.writing.specs.declared.Push.{Push}
-use Rattle.writing.specs.WriteAnswer.{Program, writeOf}
+use Rattle.push_up.specs.declared.Push.{Push}
+use Rattle.push_up.specs.WriteAnswer.{Program, writeOf}
 use Rattle.sensing.specs.Sense.{senseOf}
 use Rattle.engine.specs.ReadStore.{readOf, storeOf}
 

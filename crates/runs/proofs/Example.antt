@@ -10,9 +10,9 @@ use Rattle.code.specs.Words.{joined, select, same, indexOf, vectorsFrom, vector
 use Rattle.code.specs.Symbols.{wordOf, readingAt}
 use Rattle.group.specs.Levels.{level, put, atMost, rises, leaked}
 use Rattle.group.specs.Record.{allAtMost, isRow}
-use Rattle.writing.specs.PushUp.{singles, top, floorOver, lift, raise, pushOf, rankPushes, pushes}
+use Rattle.push_up.specs.PushUp.{singles, top, floorOver, lift, raise, pushOf, rankPushes, pushes}
 use Rattle.sensing.specs.Sense.{above, insert, sorted, sensed}
-use Rattle.writing.specs.WriteAnswer.{raised, fits, pushed}
+use Rattle.push_up.specs.WriteAnswer.{raised, fits, pushed}
 use Rattle.group.specs.Changes.{openOf, leakOf}
 use Rattle.engine.specs.ReadStore.{readOf, storeOf}
 use Rattle.engine.specs.Scrub.{scrubOf}

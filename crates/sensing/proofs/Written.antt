@@ -17,8 +17,8 @@ use Rattle.group.specs.declared.Group.{Group}
 use Rattle.group.specs.Record.{programmed}
 use Rattle.group.proofs.Checks.{checked-size}
 use Rattle.group.proofs.Groups.{IsGroup}
-use Rattle.writing.specs.WriteAnswer.{raised, pushed, writeOf}
-use Rattle.writing.proofs.Writes.{write-accepted, write-group, raised-shows}
+use Rattle.push_up.specs.WriteAnswer.{raised, pushed, writeOf}
+use Rattle.push_up.proofs.Writes.{write-accepted, write-group, raised-shows}
 use Rattle.sensing.specs.Sense.{sensed, senseOf}
 use Rattle.sensing.proofs.Sensed.{sensed-back}
 

@@ -17,7 +17,7 @@ use Rattle.order.proofs.Cells.{tally-ne, tally-le, eq-cases, lt-cases, order-co
 use Rattle.coordinates.specs.Coordinates.{after, coordinateOf}
 use Rattle.group.specs.Levels.{level}
 use Rattle.sensing.specs.Sense.{above, insert, sorted, sensed}
-use Rattle.writing.proofs.Minimal.{Each}
+use Rattle.push_up.proofs.Minimal.{Each}
 use Rattle.sensing.proofs.Sensed.{Stands, Sorted, each-count, sensed-sorted, sensed-is-order}
 use Rattle.window.specs.Ring.{windowOrder}
 use Rattle.window.specs.Steps.{standsAfter}

@@ -10,7 +10,7 @@ use lib.ListN.{length, getD}
 use Rattle.order.proofs.Cells.{true-order, order-range, order-count}
 use Rattle.order.proofs.Places.{stands}
 use Rattle.group.specs.Levels.{level}
-use Rattle.writing.proofs.Orders.{Falling, falling-shows}
+use Rattle.push_up.proofs.Orders.{Falling, falling-shows}
 use Rattle.sensing.specs.Sense.{sensed}
 use Rattle.sensing.proofs.Sensed.{sensed-is-order, sensed-stands, sensed-back}
 use Rattle.window.specs.Ring.{windowOrder, windowNumber}

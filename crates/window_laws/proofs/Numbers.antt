@@ -18,8 +18,8 @@ use Rattle.coordinates.specs.Coordinates.{coordinateOf, orderFrom}
 use Rattle.coordinates.proofs.RoundTrip.{order-ext, order-back, order-is, coordinate-back}
 use Rattle.group.specs.Levels.{level}
 use Rattle.group.specs.Record.{allAtMost}
-use Rattle.writing.specs.PushUp.{singles, Shows}
-use Rattle.writing.proofs.Orders.{Falling, falling-shows}
+use Rattle.push_up.specs.PushUp.{singles, Shows}
+use Rattle.push_up.proofs.Orders.{Falling, falling-shows}
 use Rattle.sensing.specs.Sense.{sensed}
 use Rattle.sensing.proofs.Sensed.{sensed-order, sensed-back}
 use Rattle.window.specs.Ring.{factorial, factorialSum, orderNumber, windowOrder, windowNumber, windowAt, numberAt, windowNumbers}

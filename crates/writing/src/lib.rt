@@ -1,37 +1,20 @@
-// The plain machine's write (document 01, "The plain machine"): minimal push-up to an order, with its push program. Every public function takes
-// any record and any order and answers them by one equation with a definition of specs/. Proved besides: the push-up lowers no cell, shows its
-// target, and is at or below every set of levels that does both (proofs/Minimal); a group stays a group (proofs/Writes).
+// The plain machine's write (document 01, "The plain machine"): minimal push-up to an order, with its push program. It takes any record and any order
+// and answers them by one equation with a definition of `push_up`, which has its laws too.
 use group::Group;
-use order::Cell;
 use order::Order;
 use order::Outcome;
 use order::Refusal;
+use push_up::Push;
+use push_up::Written;
 ghost use mathlib.Core.Path.{_≡_};
 ghost use mathlib.Core.Bool.{true};
-ghost use mathlib.Core.List.{[]};
 ghost use Prim.Native.Nat.{_≤_};
-ghost use Rattle.order.specs.Refusals.{outcomeNumber};
 ghost use Rattle.order.specs.Cells.{isOrder};
 ghost use Rattle.order.specs.Order.{listed};
 ghost use Rattle.group.specs.Levels.{atMost};
 ghost use Rattle.group.specs.Record.{allAtMost};
-ghost use Rattle.writing.specs.WriteAnswer.{pushArray, toldWritten, writeOf, unpushed};
+ghost use Rattle.push_up.specs.WriteAnswer.{toldWritten, writeOf};
 ghost use Rattle.writing.specs.Steps.{pushUpTo};
-
-// A cell that rises, and the level that it reaches.
-pub struct Push {
-    pub cell: Cell,
-    pub level: u16,
-}
-
-// The answer of write: the pushes are the first count places, from low to high.
-pub struct Written {
-    pub outcome: Outcome,
-    pub group: Group,
-    pub pulses: u32,
-    pub count: usize,
-    pub pushes: [Push; 11],
-}
 
 // A minimal push-up. The next cell up would be raised to the floor, if it is below.
 struct PushUp {
@@ -48,17 +31,17 @@ pub fn write(g: Group, target: Order) -> Written
 {
     let checked = group::check(g);
     let Outcome::Done = checked else {
-        return unwritten(checked, g);
+        return push_up::unwritten(checked, g);
     };
     if !order::is_order(target, g.n) {
-        return unwritten(Outcome::Refused(Refusal::NoOrder), g);
+        return push_up::unwritten(Outcome::Refused(Refusal::NoOrder), g);
     }
     let old = g.levels;
     let caps = g.caps;
     let p = raise_all(target, old);
     let levels = p.levels;
     if !is_within(levels, caps) {
-        return unwritten(Outcome::Refused(Refusal::Worn), g);
+        return push_up::unwritten(Outcome::Refused(Refusal::Worn), g);
     }
     let pushes = p.pushes;
     // the record stands here field by field: one that a call returns is copied with its padding
@@ -76,29 +59,6 @@ pub fn write(g: Group, target: Order) -> Written
     }
 }
 
-// The answer of a call that writes nothing: the record given, no pulses and no pushes.
-pub fn unwritten(outcome: Outcome, g: Group) -> Written
-    ensures { λ r. ⌜ toldWritten r ≡ record { number = outcomeNumber outcome; value = unpushed g } ⌝ }
-{
-    Written {
-        outcome,
-        group: g,
-        pulses: 0,
-        count: 0,
-        pushes: zero_pushes(),
-    }
-}
-
-// No pushes: zeros in all places.
-pub fn zero_pushes() -> [Push; 11]
-    ensures { λ r. ⌜ r ≡ pushArray [] ⌝ }
-{
-    [Push {
-        cell: Cell(0),
-        level: 0,
-    }; 11]
-}
-
 // The push-up of a whole order, from its lowest cell: each next cell up takes the larger of its level and the floor, and the floor goes to one
 // more than that.
 fn raise_all(o: Order, old: [u16; 12]) -> PushUp
@@ -109,7 +69,7 @@ fn raise_all(o: Order, old: [u16; 12]) -> PushUp
     let mut floor: u16 = 0;
     let mut pulses: u32 = 0;
     let mut count: usize = 0;
-    let mut pushes = zero_pushes();
+    let mut pushes = push_up::zero_pushes();
     let mut i = o.len;
     while 0 < i {
         i -= 1;

@@ -3,7 +3,7 @@
 use borrow.Author.Needs.{needs}
 use mathlib.Core.Path.{ap, _∙_}
 use Rattle.order.proofs.Refusals.{accepted}
-use Rattle.writing.specs.WriteAnswer.{writeOf}
+use Rattle.push_up.specs.WriteAnswer.{writeOf}
 use Rattle.engine.proofs.Answers.{store-refused, store-by-write, store-no-symbol, symbol-below, codeword-record, store-written}
 use Rattle.engine.proofs.store.Statement.{statement}
 use Rattle.engine.proofs.store.Tie as tie

@@ -4,7 +4,7 @@ use borrow.Author.Needs.{needs}
 use mathlib.Core.Path.{_≡_, sym, ap, _∙_}
 use Rattle.order.specs.Refusals.{Told}
 use Rattle.group.specs.declared.Group.{Group}
-use Rattle.writing.specs.WriteAnswer.{Program}
+use Rattle.push_up.specs.WriteAnswer.{Program}
 use Rattle.plain_machine.specs.declared.Kind.{Kind}
 use Rattle.plain_machine.specs.declared.Call.{Call}
 use Rattle.plain_machine.specs.Machine.{afterProgram, afterChange, applyBy, applyOf}

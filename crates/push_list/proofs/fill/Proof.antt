@@ -46,12 +46,12 @@ use denote.Triple.Table.{entered}
 use denote.Triple.Walked.{says, needs, Stays, gave-slice, stay-dropped, walkOf, goes-gave-slice, goes-dropped, Walks, ends-at, walked, walk-meets}
 use denote.Exit.{yes}
 use Rattle.push_list.specs.LentWrite.{filled}
-use Rattle.writing.specs.declared.Push.{Push}
+use Rattle.push_up.specs.declared.Push.{Push}
 use Rattle.push_list.proofs.Arrays.{slot-apart, slot-whole}
 use Rattle.push_list.proofs.Filled.{filled-next, length-filled}
 use Rattle.push_list.proofs.Walking.{local, local-field, sets, whiles, free-cell, free-room}
 use Rattle.push_list.proofs.Pushes.{R, Pushes, pushes, spelled, tells, makes, typed, all-typed, last-shown}
-use Rattle.writing.proofs.Push.Laws as Push′
+use Rattle.push_up.proofs.Push.Laws as Push′
 use Rattle.push_list.proofs.fill.Key.{name as #fill}
 use Rattle.push_list.proofs.fill as f
 use Rattle.push_list.proofs.fill.Statement as stated

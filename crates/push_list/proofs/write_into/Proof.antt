@@ -41,12 +41,12 @@ use Rattle.order.specs.Refusals.{Told}
 use Rattle.order.proofs.Order as Order′
 use Rattle.order.proofs.Order.Laws as Order″
 use Rattle.group.specs.declared.Group.{Group}
-use Rattle.writing.specs.declared.Push.{Push}
-use Rattle.writing.specs.WriteAnswer.{Program}
+use Rattle.push_up.specs.declared.Push.{Push}
+use Rattle.push_up.specs.WriteAnswer.{Program}
 use Rattle.group.proofs.Group as Group′
 use Rattle.group.proofs.Group.Laws as Group″
-use Rattle.writing.proofs.Push as Push′
-use Rattle.writing.proofs.Push.Laws as Push″
+use Rattle.push_up.proofs.Push as Push′
+use Rattle.push_up.proofs.Push.Laws as Push″
 use Rattle.push_list.specs.declared.Plan.{Plan}
 use Rattle.push_list.specs.LentWrite.{writeIntoOf, carriedOf, filled}
 use Rattle.push_list.specs.Steps.{toldPlan}

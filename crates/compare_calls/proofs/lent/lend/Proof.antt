@@ -51,11 +51,11 @@ use Rattle.order.specs.declared.Order.{Order}
 use Rattle.order.proofs.Order as Order′
 use Rattle.order.proofs.Order.Laws as Order″
 use Rattle.group.specs.declared.Group.{Group}
-use Rattle.writing.specs.declared.Push.{Push}
+use Rattle.push_up.specs.declared.Push.{Push}
 use Rattle.group.proofs.Group as Group′
 use Rattle.group.proofs.Group.Laws as Group″
-use Rattle.writing.proofs.Push as Push′
-use Rattle.writing.proofs.Push.Laws as Push″
+use Rattle.push_up.proofs.Push as Push′
+use Rattle.push_up.proofs.Push.Laws as Push″
 use Rattle.push_list.specs.declared.WrittenInto.{WrittenInto}
 use Rattle.push_list.proofs.Arrays.{slot-apart, slot-some, are-items}
 use Rattle.push_list.proofs.Pushes.{R, Pushes, pushes, spelled, tells, makes, all-typed}

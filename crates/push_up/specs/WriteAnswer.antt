@@ -22,9 +22,9 @@ use Rattle.order.specs.Order.{listed, isOrderOf}
 use Rattle.group.specs.declared.Group.{Group}
 use Rattle.group.specs.Levels.{atMost, rises}
 use Rattle.group.specs.Record.{groupChecks, programmed}
-use Rattle.writing.specs.declared.Push.{Push}
-use Rattle.writing.specs.declared.Written.{Written}
-use Rattle.writing.specs.PushUp.{singles, raise, pushes}
+use Rattle.push_up.specs.declared.Push.{Push}
+use Rattle.push_up.specs.declared.Written.{Written}
+use Rattle.push_up.specs.PushUp.{singles, raise, pushes}
 
 -- ---- write
 

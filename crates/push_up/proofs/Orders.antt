@@ -11,8 +11,8 @@ use lib.ListN.{length, getD, drop}
 use Rattle.order.specs.Cells.{count, isOrder}
 use Rattle.order.proofs.Cells.{IsOrder, order-true, order-count, order-past, below-suc, count-drop, tally-eq, lt-cases, eq-cases}
 use Rattle.group.specs.Levels.{level}
-use Rattle.writing.specs.PushUp.{singles, top, floorOver, Reach, Shows, raise}
-use Rattle.writing.proofs.Minimal.{OffAll, Apart, raise-shows}
+use Rattle.push_up.specs.PushUp.{singles, top, floorOver, Reach, Shows, raise}
+use Rattle.push_up.proofs.Minimal.{OffAll, Apart, raise-shows}
 
 -- ---- cells of 1 to n, none doubled
 

@@ -19,7 +19,7 @@ use Prim.Native.Nat.{ℕ, _+_, _≤_, max}
 use mathlib.Core.Bool.{cond}
 use mathlib.Core.List.{List, [], _∷_, _++_}
 use lib.Dec.{ltb}
-use Rattle.writing.specs.declared.Push.{Push}
+use Rattle.push_up.specs.declared.Push.{Push}
 use Rattle.group.specs.Levels.{level, put}
 
 unfoldable pub singles : List ℕ → List (List ℕ)

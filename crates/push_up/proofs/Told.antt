@@ -3,8 +3,8 @@
 use mathlib.Core.Path.{_≡_, ap}
 use Rattle.order.specs.Refusals.{Told}
 use Rattle.order.proofs.Refusals.{outcome-by-number}
-use Rattle.writing.specs.declared.Written.{Written}
-use Rattle.writing.specs.WriteAnswer.{Program, toldWritten}
+use Rattle.push_up.specs.declared.Written.{Written}
+use Rattle.push_up.specs.WriteAnswer.{Program, toldWritten}
 
 pub told-written : (a b : Written) → toldWritten a ≡ toldWritten b → a ≡ b
 told-written a b e =

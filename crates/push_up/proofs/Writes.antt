@@ -21,11 +21,11 @@ use Rattle.group.proofs.LevelRows.{row-true, row-below}
 use Rattle.group.proofs.Levels.{at-most-refl, at-most-trans, at-most-length, at-most-true, true-at-most}
 use Rattle.group.proofs.Checks.{checked-size, checked-levels, checked-caps}
 use Rattle.group.proofs.Groups.{IsGroup, told-value, told-accepted, group-with}
-use Rattle.writing.specs.PushUp.{singles, Shows}
-use Rattle.writing.specs.WriteAnswer.{Program, raised, fits, pushChecks, pushed, unpushed, writeOf}
-use Rattle.writing.proofs.Minimal.{raise-least}
-use Rattle.writing.proofs.WriteLoop.{few-pushes}
-use Rattle.writing.proofs.Orders.{order-shows}
+use Rattle.push_up.specs.PushUp.{singles, Shows}
+use Rattle.push_up.specs.WriteAnswer.{Program, raised, fits, pushChecks, pushed, unpushed, writeOf}
+use Rattle.push_up.proofs.Minimal.{raise-least}
+use Rattle.push_up.proofs.Pushes.{few-pushes}
+use Rattle.push_up.proofs.Orders.{order-shows}
 
 -- an order that is handed in for a group, and the group's levels, can be raised
 pub checked-target : (g : Group) (o : Order) → numberOf (groupChecks g) ≡ 0 → isOrderOf (g .n) o ≡ true

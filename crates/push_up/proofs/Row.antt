@@ -5,7 +5,7 @@ use mathlib.Core.Bool.{true}
 use Rattle.order.specs.declared.Order.{Order}
 use Rattle.order.specs.Refusals.{checkRow, inRow}
 use Rattle.group.specs.declared.Group.{Group}
-use Rattle.writing.specs.WriteAnswer.{writeChecks}
+use Rattle.push_up.specs.WriteAnswer.{writeChecks}
 
 pub write-in-row : (g : Group) (o : Order) → inRow (writeChecks g o) checkRow ≡ true
 write-in-row g o = refl

@@ -1,8 +1,8 @@
 -- `writing::unwritten` meets its contract.
 -- Assumes nothing.
 use borrow.Author.Needs.{needs}
-use Rattle.writing.proofs.unwritten.Statement.{statement}
-use Rattle.writing.proofs.unwritten.Tie as tie
+use Rattle.push_up.proofs.unwritten.Statement.{statement}
+use Rattle.push_up.proofs.unwritten.Tie as tie
 
 returns : tie.Need-returns
 returns c = rw (c .zero-pushes .ensures)

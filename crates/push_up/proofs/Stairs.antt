@@ -17,10 +17,10 @@ use Rattle.order.proofs.Places.{own-place}
 use Rattle.group.specs.declared.Group.{Group}
 use Rattle.group.specs.Levels.{level, AtMost, empty, more}
 use Rattle.group.proofs.Levels.{at-most-refl}
-use Rattle.writing.specs.PushUp.{singles, Shows}
-use Rattle.writing.specs.WriteAnswer.{pushChecks}
-use Rattle.writing.proofs.Orders.{Falling, falling-shows}
-use Rattle.writing.proofs.Writes.{push-holds, fits-where}
+use Rattle.push_up.specs.PushUp.{singles, Shows}
+use Rattle.push_up.specs.WriteAnswer.{pushChecks}
+use Rattle.push_up.proofs.Orders.{Falling, falling-shows}
+use Rattle.push_up.proofs.Writes.{push-holds, fits-where}
 
 unfoldable pub stairs : ℕ → ℕ → List ℕ → List ℕ
 stairs h n xs = tabulate n (λ k. suc h - placeOf xs (suc k)) ++ replicate (12 - n) 0

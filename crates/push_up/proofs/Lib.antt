@@ -1,0 +1,7 @@
+pub mod Minimal
+pub mod Orders
+pub mod Pushes
+pub mod Told
+pub mod Row
+pub mod Writes
+pub mod Stairs

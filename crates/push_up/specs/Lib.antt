@@ -1,0 +1,2 @@
+pub mod PushUp
+pub mod WriteAnswer

@@ -1,0 +1,48 @@
+// Minimal push-up (document 01, "The plain machine"): its definitions, the answer of a write with its push program, and their laws. Proved of the
+// push-up, over any gap and ranks: it lowers no cell, shows its target, and is at or below every set of levels that does both (proofs/Minimal). The
+// functions here make the answer of a call that writes nothing.
+use group::Group;
+use order::Cell;
+use order::Outcome;
+ghost use mathlib.Core.Path.{_≡_};
+ghost use mathlib.Core.List.{[]};
+ghost use Rattle.order.specs.Refusals.{outcomeNumber};
+ghost use Rattle.push_up.specs.WriteAnswer.{pushArray, toldWritten, unpushed};
+
+// A cell that rises, and the level that it reaches.
+pub struct Push {
+    pub cell: Cell,
+    pub level: u16,
+}
+
+// The answer of write: the pushes are the first count places, from low to high.
+pub struct Written {
+    pub outcome: Outcome,
+    pub group: Group,
+    pub pulses: u32,
+    pub count: usize,
+    pub pushes: [Push; 11],
+}
+
+// The answer of a call that writes nothing: the record given, no pulses and no pushes.
+pub fn unwritten(outcome: Outcome, g: Group) -> Written
+    ensures { λ r. ⌜ toldWritten r ≡ record { number = outcomeNumber outcome; value = unpushed g } ⌝ }
+{
+    Written {
+        outcome,
+        group: g,
+        pulses: 0,
+        count: 0,
+        pushes: zero_pushes(),
+    }
+}
+
+// No pushes: zeros in all places.
+pub fn zero_pushes() -> [Push; 11]
+    ensures { λ r. ⌜ r ≡ pushArray [] ⌝ }
+{
+    [Push {
+        cell: Cell(0),
+        level: 0,
+    }; 11]
+}
