@@ -33,7 +33,8 @@ fn lend(g: Group, target: Order, list: [Push; 12], room: usize) -> Lent
 fn mark() -> Push {
     Push {
         cell: Cell(99),
-        level: 9999,
+        start: 9999,
+        reach: 9999,
     }
 }
 

@@ -92,7 +92,10 @@ pub fn push(a: Push, b: Push) -> bool {
     if a.cell.0 != b.cell.0 {
         return false;
     }
-    a.level == b.level
+    if a.start != b.start {
+        return false;
+    }
+    a.reach == b.reach
 }
 
 fn pushes(a: [Push; 11], b: [Push; 11]) -> bool {

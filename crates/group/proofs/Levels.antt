@@ -5,7 +5,7 @@ use mathlib.Core.Logic.{_≢_}
 use mathlib.Core.Bool.{true, false≢true}
 use mathlib.Core.List.{List, [], _∷_}
 use Prim.Native.Nat.{ℕ, zero, suc, _+_, _-_, _≤_, _<_}
-use native.Mathlib.Nat.{le-refl, le-trans}
+use native.Mathlib.Nat.{le-refl, le-trans, not-suc-le-zero, le-of-suc-le-suc}
 use native.Mathlib.Omega.{arith}
 use lib.Dec.{leb}
 use lib.ListN.{length, getD, set}
@@ -29,17 +29,17 @@ pub put-same : (ls : List ℕ) (c : ℕ) → put ls c (level ls c) ≡ ls
 unfolding put level
 put-same ls c = set-getD ls (c - 1) 0
 
--- a bound from below holds still after a cell is set to no less than it
-getD-set-least : (xs : List ℕ) (i j v f : ℕ) → f ≤ v → f ≤ getD xs j 0 → f ≤ getD (set xs i v) j 0
-getD-set-least [] i j v f h k = k
-getD-set-least (x ∷ xs) zero zero v f h k = h
-getD-set-least (x ∷ xs) zero (suc j) v f h k = k
-getD-set-least (x ∷ xs) (suc i) zero v f h k = k
-getD-set-least (x ∷ xs) (suc i) (suc j) v f h k = getD-set-least xs i j v f h k
+-- what holds of a level, and of the one that a cell is set to, holds still
+pub getD-set-each : (P : ℕ → Type 0) (xs : List ℕ) (i j v : ℕ) → P v → P (getD xs j 0) → P (getD (set xs i v) j 0)
+getD-set-each P [] i j v h k = k
+getD-set-each P (x ∷ xs) zero zero v h k = h
+getD-set-each P (x ∷ xs) zero (suc j) v h k = k
+getD-set-each P (x ∷ xs) (suc i) zero v h k = k
+getD-set-each P (x ∷ xs) (suc i) (suc j) v h k = getD-set-each P xs i j v h k
 
 pub level-put-least : (ls : List ℕ) (c d v f : ℕ) → f ≤ v → f ≤ level ls d → f ≤ level (put ls c v) d
 unfolding level put
-level-put-least ls c d v f h k = getD-set-least ls (c - 1) (d - 1) v f h k
+level-put-least ls c d v f h k = getD-set-each (λ x. f ≤ x) ls (c - 1) (d - 1) v h k
 
 -- ---- the cellwise order
 
@@ -115,6 +115,17 @@ pub sum-mono : {xs ys : List ℕ} → AtMost xs ys → sum xs ≤ sum ys
 unfolding sum
 sum-mono empty = le-refl 0
 sum-mono (more h p) = omega (arith, sum-mono p)
+
+-- the sum where one cell is changed
+sum-set : (ls : List ℕ) (i v : ℕ) → i < length ls → sum (set ls i v) + getD ls i 0 ≡ sum ls + v
+unfolding sum
+sum-set [] i v l = absurd (not-suc-le-zero l)
+sum-set (x ∷ ls) zero v l = omega arith
+sum-set (x ∷ ls) (suc i) v l = omega (arith, sum-set ls i v (le-of-suc-le-suc l))
+
+pub sum-put : (ls : List ℕ) (c v : ℕ) → c - 1 < length ls → sum (put ls c v) + level ls c ≡ sum ls + v
+unfolding level put
+sum-put ls c v l = sum-set ls (c - 1) v l
 
 -- going up, the rises are what the sum grows by
 pub rises-up : {xs ys : List ℕ} → AtMost xs ys → rises xs ys + sum xs ≡ sum ys

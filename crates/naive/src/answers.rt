@@ -28,7 +28,8 @@ pub fn plain(number: u8, group: Group) -> Answer {
         count: 0,
         pushes: [Push {
             cell: Cell(0),
-            level: 0,
+            start: 0,
+            reach: 0,
         }; 11],
     }
 }

@@ -1,5 +1,5 @@
--- The seven calls as one answer each: its checks, what it carries where all of them hold, when worn is given, and that the pulses that an
--- answer carries are the sum of the rises.
+-- The seven calls as one answer each: its checks, what it carries where all of them hold, when worn is given, and that the pushes that an
+-- answer carries are a push program to the levels that it leaves, and its pulses the sum of the rises.
 -- Assumes nothing.
 use Prim.Native.Nat.{ℕ, zero, suc, _-_, _≤_, zero-le}
 use mathlib.Core.Path.{_≡_, refl, sym, ap, _∙_}
@@ -8,7 +8,7 @@ use mathlib.Core.List.{List, [], _∷_, _++_}
 use mathlib.Core.Option.{none}
 use native.Mathlib.Omega.{arith}
 use lib.Dec.{leb}
-use lib.ListN.{replicate}
+use lib.ListN.{length, replicate}
 use Rattle.order.specs.declared.Order.{Order}
 use Rattle.order.specs.declared.Refusal.{Refusal}
 use Rattle.order.specs.declared.Refusal.the-variants.{ListShort, NoOrder, Worn}
@@ -24,13 +24,17 @@ use Rattle.code.specs.Words.{wordAt}
 use Rattle.code.specs.Symbols.{wordOf, Reading, noReading}
 use Rattle.group.specs.declared.Group.{Group}
 use Rattle.group.specs.Levels.{put, AtMost, rises, leaked}
-use Rattle.push_up.specs.PushUp.{singles, Shows}
+use Rattle.push_up.specs.declared.Push.{Push}
+use Rattle.push_up.specs.PushUp.{singles, Shows, pulsesIn}
 use Rattle.group.specs.Record.{groupChecks, withLevels, withCaps, erased}
 use Rattle.push_up.specs.WriteAnswer.{Program, writeChecks, pushArray, raised, fits, pushChecks, pushed, unpushed, writeOf}
 use Rattle.group.specs.Changes.{cellChecks, wearChecks, leakOf, wearOf, eraseOf}
 use Rattle.group.proofs.Levels.{at-most-refl, at-most-true, rises-down, leaked-below}
+use Rattle.group.proofs.Checks.{checked-size}
 use Rattle.group.proofs.Groups.{by-number, IsGroup, leak-group, wear-group, erase-group}
 use Rattle.push_up.proofs.Writes.{push-held, pushes-few, write-group, raised-shows}
+use Rattle.push_up.specs.PushProgram.{counted, IsPushProgram}
+use Rattle.push_up.proofs.Programs.{counted-pulses, counted-program, no-pushes}
 use Rattle.push_list.specs.LentWrite.{intoChecks, writeIntoOf, carriedOf}
 use Rattle.push_list.proofs.Written.{into-group}
 use Rattle.sensing.proofs.Sensed.{sensed-order}
@@ -167,15 +171,18 @@ module _ (g : Group) (c : Call) (w : writes (c .kind) ≡ true) where
 
 -- ---- targets
 
-target-order : (g : Group) (o : Order) (k : Kind) → writes k ≡ true → numberOf (earlierBy g o k) ≡ 0 → isOrder (g .n) (targetBy g o k) ≡ true
+-- past the earlier checks of a write, the record is a group and the target an order of its cells
+target-order : (g : Group) (o : Order) (k : Kind) → writes k ≡ true → numberOf (earlierBy g o k) ≡ 0 → (numberOf (groupChecks g) ≡ 0) × (isOrder (g .n) (targetBy g o k) ≡ true)
 unfolding wordOf
 target-order g o Write w e =
-    order-parts (g .n) o (check-held (isOrderOf (g .n) o) NoOrder [] (all-held _ (groupChecks g) e .1) .0) .1 .order
+    let t = all-held _ (groupChecks g) e in
+    (t .0, order-parts (g .n) o (check-held (isOrderOf (g .n) o) NoOrder [] (t .1) .0) .1 .order)
 target-order g o (WriteInto room) w e =
-    let roomy = check-held (leb (g .n - 1) room) ListShort _ (all-held _ (groupChecks g) e .1) in
-    order-parts (g .n) o (check-held (isOrderOf (g .n) o) NoOrder [] (roomy .1) .0) .1 .order
-target-order g o (Store s) w e = order-of-any (coordinateAt (wordAt (g .n) s)) (g .n)
-target-order g o Scrub w e = exchange-order (g .n) (sensedOrder g) (sensed-order (g .n) (g .levels)) (placeRead g)
+    let t = all-held _ (groupChecks g) e in
+    let roomy = check-held (leb (g .n - 1) room) ListShort _ (t .1) in
+    (t .0, order-parts (g .n) o (check-held (isOrderOf (g .n) o) NoOrder [] (roomy .1) .0) .1 .order)
+target-order g o (Store s) w e = (all-held _ (groupChecks g) e .0, order-of-any (coordinateAt (wordAt (g .n) s)) (g .n))
+target-order g o Scrub w e = (all-held _ (groupChecks g) e .0, exchange-order (g .n) (sensedOrder g) (sensed-order (g .n) (g .levels)) (placeRead g))
 target-order g o (Leak c d) w e = absurd (false≢true w)
 target-order g o (Wear c cap) w e = absurd (false≢true w)
 target-order g o Erase w e = absurd (false≢true w)
@@ -184,10 +191,10 @@ target-order g o Read w e = absurd (false≢true w)
 -- at most n - 1 pushes
 accept-few : (g : Group) (o : Order) (k : Kind) → numberOf (earlierBy g o k) ≡ 0 → acceptBy g o k .count ≤ g .n - 1
 unfolding pushed
-accept-few g o Write e = pushes-few g _ (target-order g o Write refl e)
-accept-few g o (WriteInto room) e = pushes-few g _ (target-order g o (WriteInto room) refl e)
-accept-few g o (Store s) e = pushes-few g _ (target-order g o (Store s) refl e)
-accept-few g o Scrub e = pushes-few g _ (target-order g o Scrub refl e)
+accept-few g o Write e = pushes-few g _ (target-order g o Write refl e .1)
+accept-few g o (WriteInto room) e = pushes-few g _ (target-order g o (WriteInto room) refl e .1)
+accept-few g o (Store s) e = pushes-few g _ (target-order g o (Store s) refl e .1)
+accept-few g o Scrub e = pushes-few g _ (target-order g o Scrub refl e .1)
 accept-few g o (Leak c d) e = zero-le
 accept-few g o (Wear c cap) e = zero-le
 accept-few g o Erase e = zero-le
@@ -202,9 +209,57 @@ apply-few g c =
 -- past the earlier checks, a write shows its target
 pub target-shows : (g : Group) (c : Call) → IsGroup g → writes (c .kind) ≡ true → numberOf (earlierChecks g c) ≡ 0
     → Shows 1 (singles (target g c)) (raised g (target g c))
-target-shows g c h w e = raised-shows g (target g c) h (target-order g (c .target) (c .kind) w e)
+target-shows g c h w e = raised-shows g (target g c) h (target-order g (c .target) (c .kind) w e .1)
 
--- ---- pulses are the sum of the rises
+-- ---- the push program that an answer carries
+
+abbrev carried : Step → List Push
+carried s = counted (s .count) (s .pushes)
+
+module _ (g : Group) (o : Order) (twelve : length (g .levels) ≡ 12) where
+  target-program : (k : Kind) → writes k ≡ true → numberOf (earlierBy g o k) ≡ 0
+      → let p = pushed g (targetBy g o k) in IsPushProgram (counted (p .count) (p .pushes)) (g .levels) (p .group .levels)
+  target-program k w e =
+      let t = target-order g o k w e in
+      counted-program g _ (t .1) (omega (arith, twelve, checked-size g (t .0)))
+
+  accept-program : (k : Kind) → writes k ≡ true → numberOf (earlierBy g o k) ≡ 0 → IsPushProgram (carried (acceptBy g o k)) (g .levels) (acceptBy g o k .group .levels)
+  accept-program Write w e = target-program Write w e
+  accept-program (WriteInto room) w e = target-program (WriteInto room) w e
+  accept-program (Store s) w e = target-program (Store s) w e
+  accept-program Scrub w e = target-program Scrub w e
+  accept-program (Leak c d) w e = absurd (false≢true w)
+  accept-program (Wear c cap) w e = absurd (false≢true w)
+  accept-program Erase w e = absurd (false≢true w)
+  accept-program Read w e = absurd (false≢true w)
+
+-- the answer to a write, a store or a scrub, also one that is refused, carries a push program from the levels that it found to those that it left
+pub apply-program : (g : Group) (c : Call) → length (g .levels) ≡ 12 → writes (c .kind) ≡ true
+    → let s = applyOf g c .value in IsPushProgram (counted (s .count) (s .pushes)) (g .levels) (s .group .levels)
+apply-program g c twelve w =
+    rw (apply-value g c)
+    (by-number (λ (s : Step). IsPushProgram (carried s) (g .levels) (s .group .levels)) (numberOf (checks g c)) (accept g c) (quiet g)
+    (λ e. accept-program g (c .target) twelve (c .kind) w (done-checks g c w e .0)) (no-pushes (g .levels)))
+
+-- the pulses of any answer are those of the pushes that it carries
+accept-pulses : (g : Group) (o : Order) (k : Kind) → acceptBy g o k .pulses ≡ pulsesIn (carried (acceptBy g o k))
+unfolding pulsesIn
+accept-pulses g o Write = counted-pulses g _
+accept-pulses g o (WriteInto room) = counted-pulses g _
+accept-pulses g o (Store s) = counted-pulses g _
+accept-pulses g o Scrub = counted-pulses g _
+accept-pulses g o (Leak c d) = refl
+accept-pulses g o (Wear c cap) = refl
+accept-pulses g o Erase = refl
+accept-pulses g o Read = refl
+
+pub apply-pulses : (g : Group) (c : Call) → let s = applyOf g c .value in s .pulses ≡ pulsesIn (counted (s .count) (s .pushes))
+unfolding pulsesIn
+apply-pulses g c =
+    rw (apply-value g c)
+    (by-number (λ (s : Step). s .pulses ≡ pulsesIn (carried s)) (numberOf (checks g c)) (accept g c) (quiet g) (λ e. accept-pulses g (c .target) (c .kind)) refl)
+
+-- ---- and they are the sum of the rises
 
 rises-zeros : (xs : List ℕ) (k : ℕ) → rises xs (replicate k 0) ≡ 0
 unfolding rises
@@ -212,19 +267,23 @@ rises-zeros [] k = refl
 rises-zeros (x ∷ xs) zero = refl
 rises-zeros (x ∷ xs) (suc k) = omega (arith, rises-zeros xs k)
 
-accept-rises : (g : Group) (o : Order) (k : Kind) → rises (g .levels) (acceptBy g o k .group .levels) ≡ acceptBy g o k .pulses
-unfolding pushed
-accept-rises g o Write = refl
-accept-rises g o (WriteInto room) = refl
-accept-rises g o (Store s) = refl
-accept-rises g o Scrub = refl
-accept-rises g o (Leak c d) = rises-down (leaked-below (c .0) d (g .levels))
-accept-rises g o (Wear c cap) = rises-down (at-most-refl (g .levels))
-accept-rises g o Erase = rises-zeros (g .levels) 12
-accept-rises g o Read = rises-down (at-most-refl (g .levels))
+-- a call that writes nothing raises nothing
+pub kept-rises : (g : Group) (o : Order) (k : Kind) → writes k ≡ false → rises (g .levels) (acceptBy g o k .group .levels) ≡ acceptBy g o k .pulses
+kept-rises g o Write w = absurd (false≢true (sym w))
+kept-rises g o (WriteInto room) w = absurd (false≢true (sym w))
+kept-rises g o (Store s) w = absurd (false≢true (sym w))
+kept-rises g o Scrub w = absurd (false≢true (sym w))
+kept-rises g o (Leak c d) w = rises-down (leaked-below (c .0) d (g .levels))
+kept-rises g o (Wear c cap) w = rises-down (at-most-refl (g .levels))
+kept-rises g o Erase w = rises-zeros (g .levels) 12
+kept-rises g o Read w = rises-down (at-most-refl (g .levels))
 
-pub apply-rises : (g : Group) (c : Call) → rises (g .levels) (applyOf g c .value .group .levels) ≡ applyOf g c .value .pulses
-apply-rises g c =
-    rw (apply-value g c)
-    (by-number (λ (s : Step). rises (g .levels) (s .group .levels) ≡ s .pulses) (numberOf (checks g c)) (accept g c) (quiet g)
-    (λ e. accept-rises g (c .target) (c .kind)) (rises-down (at-most-refl (g .levels))))
+pub apply-rises : (g : Group) (c : Call) → length (g .levels) ≡ 12 → rises (g .levels) (applyOf g c .value .group .levels) ≡ applyOf g c .value .pulses
+apply-rises g c twelve = go (writes (c .kind)) refl
+  where
+    go : (b : Bool) → writes (c .kind) ≡ b → rises (g .levels) (applyOf g c .value .group .levels) ≡ applyOf g c .value .pulses
+    go true w = sym (apply-pulses g c ∙ apply-program g c twelve w .pulses)
+    go false w =
+        rw (apply-value g c)
+        (by-number (λ (s : Step). rises (g .levels) (s .group .levels) ≡ s .pulses) (numberOf (checks g c)) (accept g c) (quiet g)
+        (λ e. kept-rises g (c .target) (c .kind) w) (rises-down (at-most-refl (g .levels))))

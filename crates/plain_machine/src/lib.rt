@@ -1,6 +1,6 @@
 // The plain machine (document 01, "The plain machine"): `apply`, one of the seven calls of demand 3. It takes any record and any call and answers
-// them by one equation with a definition of specs/. Proved besides: a group stays a group under every call, and the pulses of an answer are the
-// rises of its levels (proofs/Machine).
+// them by one equation with a definition of specs/. Proved besides: a group stays a group under every call, the pushes of a write, a store or a scrub
+// are a push program from the levels found to those left, and the pulses of an answer are the rises of its levels (proofs/Machine).
 use engine::Applied;
 use engine::Judged;
 use group::Changed;

@@ -1,6 +1,8 @@
--- The write into a list and the write by value: with room enough they answer alike, and the list starts with the pushes of the write.
+-- The write into a list and the write by value: with room enough they answer alike, and the list starts with the pushes of the write, which are a
+-- program from the old levels to the new ones.
 -- Assumes nothing.
 use Prim.Native.Nat.{ℕ, _-_, _≤_, _<_}
+use native.Mathlib.Omega.{arith}
 use mathlib.Core.Path.{_≡_, refl, sym, ap, _∙_}
 use mathlib.Core.List.{List, _++_}
 use lib.ListN.{length, drop}
@@ -10,12 +12,16 @@ use Rattle.order.specs.declared.Order.{Order}
 use Rattle.order.specs.declared.Refusal.the-variants.{ListShort}
 use Rattle.order.specs.Refusals.{numberOf, Told, answer}
 use Rattle.order.specs.Order.{listed}
+use Rattle.order.proofs.Check.{order-parts}
 use Rattle.order.proofs.Refusals.{check-held, all-held, later-decide, check-fails, told-refused}
 use Rattle.group.specs.declared.Group.{Group}
 use Rattle.push_up.specs.declared.Push.{Push}
 use Rattle.group.specs.Record.{groupChecks}
-use Rattle.push_up.specs.PushUp.{singles, pushes}
+use Rattle.push_up.specs.PushUp.{singles, pushes, pulsesIn}
 use Rattle.push_up.specs.WriteAnswer.{Program, pushed, unpushed, writeOf}
+use Rattle.push_up.specs.PushProgram.{counted, IsPushProgram}
+use Rattle.push_up.proofs.Programs.{counted-pulses, counted-program, no-pushes}
+use Rattle.group.proofs.Checks.{checked-size}
 use Rattle.group.proofs.Groups.{IsGroup}
 use Rattle.push_up.proofs.Writes.{group-pushed}
 use Rattle.push_list.specs.LentWrite.{intoChecks, writeIntoOf, filled, listAfter}
@@ -57,3 +63,29 @@ module _ (g : Group) (o : Order) where
     program-first e =
         let program = pushes 1 (singles (listed o)) (g .levels) in
         rw (e, take-at program _ (length program) refl)
+
+    -- ---- the pushes in the list
+
+    -- as many as the answer counts are those of the answer by value
+    list-counted : let p = writeIntoOf g o (length list) .value in counted (p .count) (listAfter g o list) ≡ counted (p .count) (p .pushes)
+    unfolding writeIntoOf listAfter answer pushed
+    list-counted =
+        let program = pushes 1 (singles (listed o)) (g .levels) in
+        either (numberOf (intoChecks g o (length list))) (λ e. rw (e, take-at program _ (length program) refl, take-at program _ (length program) refl)) (λ k e. rw e)
+
+    -- their pulses are the answer's, and they are a push program from the levels that the call found to those that it left
+    pub list-pulses : let p = writeIntoOf g o (length list) .value in p .pulses ≡ pulsesIn (counted (p .count) (listAfter g o list))
+    unfolding writeIntoOf answer pulsesIn
+    list-pulses =
+        rw list-counted (either (numberOf (intoChecks g o (length list))) (λ e. rw e (counted-pulses g (listed o))) (λ k e. rw e))
+
+    pub list-program : length (g .levels) ≡ 12
+        → let p = writeIntoOf g o (length list) .value in IsPushProgram (counted (p .count) (listAfter g o list)) (g .levels) (p .group .levels)
+    unfolding writeIntoOf answer
+    list-program twelve = rw list-counted (either (numberOf (intoChecks g o (length list))) (λ e. rw e (accepted-program e)) (λ k e. rw e (no-pushes (g .levels))))
+      where
+        accepted-program : numberOf (intoChecks g o (length list)) ≡ 0 → let p = pushed g (listed o) in IsPushProgram (counted (p .count) (p .pushes)) (g .levels) (p .group .levels)
+        accepted-program e =
+            let s = all-held _ (groupChecks g) e in
+            let ordered = check-held _ _ _ (check-held _ _ _ (s .1) .1) .0 in
+            counted-program g (listed o) (order-parts (g .n) o ordered .1 .order) (omega (arith, twelve, checked-size g (s .0)))

@@ -1,7 +1,7 @@
 // The lent list of pushes (document 01: "The call that fills a lent list of pushes writes the pushes first and leaves the later places
 // untouched"). What is written there is decided by value, in `write_with_room`; only `fill` and `write_into` have a slice of pushes, and these
 // two are proved by hand. Each public function takes any record; equations fix its answer and its list. Proved besides: with room enough the
-// answer is that of `writing::write`, and the list starts with its pushes (proofs/Written).
+// answer is that of `writing::write`, and the list starts with its pushes, a push program from the old levels to the new ones (proofs/Written).
 use group::Group;
 use order::Order;
 use order::Outcome;

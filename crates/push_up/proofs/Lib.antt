@@ -1,6 +1,7 @@
 pub mod Minimal
 pub mod Orders
 pub mod Pushes
+pub mod Programs
 pub mod Told
 pub mod Row
 pub mod Writes

@@ -5,7 +5,7 @@ use mathlib.Core.Path.{_≡_, refl}
 use mathlib.Core.Bool.{true}
 use mathlib.Core.Logic.{_↔_, ⊎-elim}
 use mathlib.Core.List.{List, [], _∷_}
-use native.Mathlib.Nat.{not-suc-le-zero, le-of-suc-le-suc}
+use native.Mathlib.Nat.{not-suc-le-zero, le-of-suc-le-suc, le-trans}
 use native.Mathlib.Omega.{arith}
 use lib.ListN.{length, getD, drop}
 use Rattle.order.specs.Cells.{count, isOrder}
@@ -80,7 +80,7 @@ cells-off {n} {c} {cs} s = off-all n c cs (first-low s) (cells-tail s) (first-ne
 cells-apart : {n : ℕ} (m : ℕ) (cs : List ℕ) → n ≤ m → CellsOf n cs → Apart m (singles cs)
 unfolding singles Apart
 cells-apart m [] l s = tt
-cells-apart m (c ∷ cs) l s = (((omega (arith, first-low s, first-high s), (tt, cells-off s)), tt), cells-apart m cs l (cells-tail s))
+cells-apart m (c ∷ cs) l s = ((((first-low s, le-trans (first-high s) l), (tt, cells-off s)), tt), cells-apart m cs l (cells-tail s))
 
 -- the cells of an order stand apart, so that it shows after its push-up
 pub order-apart : (n : ℕ) (xs ls : List ℕ) → isOrder n xs ≡ true → n ≤ length ls → Apart (length ls) (singles xs)

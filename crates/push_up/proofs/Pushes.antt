@@ -1,20 +1,20 @@
--- How many pushes a program has.
+-- How many pushes a program has, and their pulses.
 -- Assumes nothing.
-use Prim.Native.Nat.{ℕ, _-_, _<_, _≤_, max}
+use Prim.Native.Nat.{ℕ, _+_, _-_, _<_, _≤_, max}
 use mathlib.Core.Path.{_≡_}
-use mathlib.Core.Bool.{Bool, true, false, cond}
-use mathlib.Core.List.{List, [], _∷_}
+use mathlib.Core.Logic.{⊎-elim}
+use mathlib.Core.List.{List, [], _∷_, _++_}
 use native.Mathlib.Nat.{le-refl, max-zero}
 use native.Mathlib.Omega.{arith}
 use borrow.Author.Tests.{lt-ltb, le-ltb}
-use lib.Dec.{ltb}
 use lib.ListN.{length, length-append}
+use Rattle.order.proofs.Cells.{lt-cases}
 use Rattle.group.specs.Levels.{level}
 use Rattle.push_up.specs.declared.Push.{Push}
-use Rattle.push_up.specs.PushUp.{singles, floorOver, raise, pushOf, rankPushes, pushes}
+use Rattle.push_up.specs.PushUp.{singles, floorOver, raise, pushOf, rankPushes, pushes, pulsesIn}
 
 -- the push of a cell that rises, and none of one that keeps its level
-pub push-of : (c old new : ℕ) → old < new → pushOf c old new ≡ record { cell = record { 0 = c }; level = new } ∷ []
+pub push-of : (c old new : ℕ) → old < new → pushOf c old new ≡ record { cell = record { 0 = c }; start = old; reach = new } ∷ []
 unfolding pushOf
 push-of c old new l = rw (lt-ltb old new l)
 
@@ -22,13 +22,27 @@ pub push-none : (c old : ℕ) → pushOf c old old ≡ []
 unfolding pushOf
 push-none c old = rw (le-ltb old old (le-refl old))
 
-push-few : (c old new : ℕ) → length (pushOf c old new) ≤ 1
+-- what holds of one push where the cell rises, and of none where it does not
+pub push-cases : (P : List Push → Type 0) (c old new : ℕ) → (old < new → P (record { cell = record { 0 = c }; start = old; reach = new } ∷ [])) → (new ≤ old → P [])
+    → P (pushOf c old new)
 unfolding pushOf
-push-few c old new = go (ltb old new)
-  where
-    go : (b : Bool) → length {A = Push} (cond b (record { cell = record { 0 = c }; level = new } ∷ []) []) ≤ 1
-    go true = omega arith
-    go false = omega arith
+push-cases P c old new rises keeps = ⊎-elim (λ t. rw (t .1) (rises (t .0))) (λ t. rw (t .1) (keeps (t .0))) (lt-cases old new)
+
+-- what it adds: at most one to their number, and its rise to the pulses
+push-few : (c old new : ℕ) → length (pushOf c old new) ≤ 1
+push-few c old new = push-cases (λ ps. length ps ≤ 1) c old new (λ l. omega arith) (λ l. omega arith)
+
+push-pulses : (c old new : ℕ) → pulsesIn (pushOf c old new) ≡ new - old
+unfolding pulsesIn
+push-pulses c old new = push-cases (λ ps. pulsesIn ps ≡ new - old) c old new (λ l. omega arith) (λ l. omega arith)
+
+pulses-append : (ps qs : List Push) → pulsesIn (ps ++ qs) ≡ pulsesIn ps + pulsesIn qs
+unfolding pulsesIn
+pulses-append [] qs = omega arith
+pulses-append (p ∷ ps) qs = omega (arith, pulses-append ps qs)
+
+pub pulses-more : (ps : List Push) (c old new : ℕ) → pulsesIn (ps ++ pushOf c old new) ≡ pulsesIn ps + (new - old)
+pulses-more ps c old new = omega (arith, pulses-append ps (pushOf c old new), push-pulses c old new)
 
 -- a push program has at most n - 1 pushes: the lowest cell is never pushed
 pub few-pushes : (gap : ℕ) (old cs : List ℕ) → length (pushes gap (singles cs) old) ≤ length cs - 1

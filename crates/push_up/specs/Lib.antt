@@ -1,2 +1,3 @@
 pub mod PushUp
 pub mod WriteAnswer
+pub mod PushProgram

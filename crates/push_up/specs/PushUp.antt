@@ -1,4 +1,4 @@
--- Document 01, "The plain machine": minimal push-up (SD 000) and its push program.
+-- Document 01, "The plain machine": minimal push-up (SD 000) and its push program; document 02, request (b): the start of a push, and the pulses.
 -- A target lists the cells of each rank, highest rank first. Here an order is the target: one cell a rank, and the gap between ranks is 1.
 --
 --   singles xs          the target that is an order: the cells of each rank, one a rank
@@ -12,10 +12,13 @@
 --   raise g rs ls       minimal push-up: the lowest rank keeps its levels; going up, each cell takes the larger of its old level and the
 --                       gap above the highest new level of the rank just below it. For an order: the lowest cell keeps its level; each next cell
 --                       takes the larger of its old level and one more than the new level of the cell just below it
---   pushOf c old new    the push of a cell that really rises, with its new level; none of one that keeps its level
---   rankPushes old f r  the pushes of the cells r, which rise to f: the cell listed last is pushed first, as the rank listed last is
+--   pushOf c old new    the push of a cell that really rises, from the level where it starts to the one that it reaches; none of one that keeps
+--                       its level
+--   rankPushes old f r  the pushes of the cells r, which take the larger of their old level and f: the cell listed last is pushed first, as the rank
+--                       listed last is
 --   pushes g rs ls      the push program, from low to high
-use Prim.Native.Nat.{ℕ, _+_, _≤_, max}
+--   pulsesIn ps         the pulses of a push program: the sum of reach minus start over its pushes
+use Prim.Native.Nat.{ℕ, _+_, _-_, _≤_, max}
 use mathlib.Core.Bool.{cond}
 use mathlib.Core.List.{List, [], _∷_, _++_}
 use lib.Dec.{ltb}
@@ -51,7 +54,7 @@ raise g [] ls = ls
 raise g (r ∷ rs) ls = let new = raise g rs ls in lift ls (floorOver g rs new) r new
 
 unfoldable pub pushOf : ℕ → ℕ → ℕ → List Push
-pushOf c old new = cond (ltb old new) (record { cell = record { 0 = c }; level = new } ∷ []) []
+pushOf c old new = cond (ltb old new) (record { cell = record { 0 = c }; start = old; reach = new } ∷ []) []
 
 unfoldable pub rankPushes : List ℕ → ℕ → List ℕ → List Push
 rankPushes old f [] = []
@@ -60,3 +63,8 @@ rankPushes old f (c ∷ cs) = rankPushes old f cs ++ pushOf c (level old c) (max
 unfoldable pub pushes : ℕ → List (List ℕ) → List ℕ → List Push
 pushes g [] ls = []
 pushes g (r ∷ rs) ls = pushes g rs ls ++ rankPushes ls (floorOver g rs (raise g rs ls)) r
+
+-- a difference of numbers from 0 does not go below 0
+unfoldable pub pulsesIn : List Push → ℕ
+pulsesIn [] = 0
+pulsesIn (p ∷ ps) = (p .reach - p .start) + pulsesIn ps

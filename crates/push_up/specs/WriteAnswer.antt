@@ -1,11 +1,12 @@
--- Document 01, "The plain machine": what a write answers.
+-- Document 01, "The plain machine": what a write answers; document 02, request (b): its pulses.
 --
 --   Program             what the answer carries: the group, the pulses, how many pushes, and the pushes with zeros after them
 --   toldWritten a       what the answer says: its number, and what it carries
+--   noPush              what stands in a place after the pushes: zeros
 --   pushArray ps        eleven places: the pushes, and zeros after them
 --   raised g xs         the levels of the minimal push-up to an order
 --   fits g xs           no new level, raised or kept, is above its cell's cap
---   pushed g xs         what an accepted write of an order carries: pulses are the sum of all rises
+--   pushed g xs         what an accepted write of an order carries: its pulses are those of its push program
 --   unpushed g          what a refused write carries: the record given, no pulses, no pushes
 --   pushChecks g xs     the last check of a call that raises cells to show an order: 8
 --   writeChecks g o     the checks of a write: 1, 2, 4, 8
@@ -20,11 +21,11 @@ use Rattle.order.specs.declared.Refusal.the-variants.{NoOrder, Worn}
 use Rattle.order.specs.Refusals.{outcomeNumber, Told, answer}
 use Rattle.order.specs.Order.{listed, isOrderOf}
 use Rattle.group.specs.declared.Group.{Group}
-use Rattle.group.specs.Levels.{atMost, rises}
+use Rattle.group.specs.Levels.{atMost}
 use Rattle.group.specs.Record.{groupChecks, programmed}
 use Rattle.push_up.specs.declared.Push.{Push}
 use Rattle.push_up.specs.declared.Written.{Written}
-use Rattle.push_up.specs.PushUp.{singles, raise, pushes}
+use Rattle.push_up.specs.PushUp.{singles, raise, pushes, pulsesIn}
 
 -- ---- write
 
@@ -41,8 +42,11 @@ toldWritten a =
       value = record { group = a .group; pulses = a .pulses; count = a .count; pushes = a .pushes };
     }
 
+abbrev pub noPush : Push
+noPush = record { cell = record { 0 = 0 }; start = 0; reach = 0 }
+
 abbrev pub pushArray : List Push → List Push
-pushArray ps = ps ++ replicate (11 - length ps) (record { cell = record { 0 = 0 }; level = 0 })
+pushArray ps = ps ++ replicate (11 - length ps) noPush
 
 unfoldable pub raised : Group → List ℕ → List ℕ
 raised g xs = raise 1 (singles xs) (g .levels)
@@ -55,7 +59,7 @@ pushed g xs =
     let program : List Push = pushes 1 (singles xs) (g .levels) in
     record {
       group = programmed g (raised g xs);
-      pulses = rises (g .levels) (raised g xs);
+      pulses = pulsesIn program;
       count = length program;
       pushes = pushArray program;
     }

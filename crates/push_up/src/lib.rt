@@ -1,6 +1,8 @@
-// Minimal push-up (document 01, "The plain machine"): its definitions, the answer of a write with its push program, and their laws. Proved of the
-// push-up, over any gap and ranks: it lowers no cell, shows its target, and is at or below every set of levels that does both (proofs/Minimal). The
-// functions here make the answer of a call that writes nothing.
+// Minimal push-up (document 01, "The plain machine"; document 02, request (b)): its definitions, the answer of a write with its push program, and their
+// laws. Proved of the push-up, over any gap and any ranks that list no cell twice: it lowers no cell, shows its target, and is at or below every set of
+// levels that does both (proofs/Minimal); its program, applied push by push to the old levels, gives the new ones, each push starts from where its cell
+// then stands, no cell is pushed twice, and the pulses are the sum of all rises (proofs/Programs); after a write a group is still a group
+// (proofs/Writes). The functions here make the answer of a call that writes nothing.
 use group::Group;
 use order::Cell;
 use order::Outcome;
@@ -9,10 +11,11 @@ ghost use mathlib.Core.List.{[]};
 ghost use Rattle.order.specs.Refusals.{outcomeNumber};
 ghost use Rattle.push_up.specs.WriteAnswer.{pushArray, toldWritten, unpushed};
 
-// A cell that rises, and the level that it reaches.
+// A cell that rises, the level that it starts from and the level that it reaches.
 pub struct Push {
     pub cell: Cell,
-    pub level: u16,
+    pub start: u16,
+    pub reach: u16,
 }
 
 // The answer of write: the pushes are the first count places, from low to high.
@@ -43,6 +46,7 @@ pub fn zero_pushes() -> [Push; 11]
 {
     [Push {
         cell: Cell(0),
-        level: 0,
+        start: 0,
+        reach: 0,
     }; 11]
 }

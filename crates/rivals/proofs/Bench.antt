@@ -17,9 +17,9 @@ use Rattle.code.specs.Words.{joined, select, same, indexOf, vectorsFrom, vector
 use Rattle.code.specs.Symbols.{wordOf, readingAt}
 use Rattle.group.specs.declared.Group.{Group}
 use Rattle.push_up.specs.declared.Push.{Push}
-use Rattle.group.specs.Levels.{level, put, atMost, rises, leaked}
+use Rattle.group.specs.Levels.{level, put, atMost, leaked}
 use Rattle.group.specs.Record.{allAtMost, isRow}
-use Rattle.push_up.specs.PushUp.{singles, top, floorOver, lift, raise, pushOf, rankPushes, pushes}
+use Rattle.push_up.specs.PushUp.{singles, top, floorOver, lift, raise, pushOf, rankPushes, pushes, pulsesIn}
 use Rattle.sensing.specs.Sense.{above, insert, sorted, sensed}
 use Rattle.push_up.specs.WriteAnswer.{raised, fits, pushed}
 use Rattle.group.specs.Changes.{openOf, leakOf}
@@ -37,14 +37,14 @@ call kind = record { kind = kind; target = order [] }
 -- an accepted call: the group left, the symbol, the verdict, the pulses and the pushes
 abbrev step : Group → ℕ → Option Verdict → ℕ → List Push → Told Step
 step g symbol verdict pulses ps =
-    done (record { group = g; symbol = symbol; verdict = verdict; pulses = pulses; count = length ps; pushes = places 11 (push 0 0) ps })
+    done (record { group = g; symbol = symbol; verdict = verdict; pulses = pulses; count = length ps; pushes = places 11 (push 0 0 0) ps })
 
 -- open 3, store 1, leak cell 3 by 1, scrub, read: the scrub finds [2,3,1], put right at place 1
 pub case-printed :
     (openOf 3 ≡ done (group false (0 ∷ 0 ∷ 0 ∷ [])))
-    × (applyOf (group false (0 ∷ 0 ∷ 0 ∷ [])) (call (Store 1)) ≡ step (group true (0 ∷ 1 ∷ 2 ∷ [])) 1 none 3 (push 2 1 ∷ push 3 2 ∷ []))
+    × (applyOf (group false (0 ∷ 0 ∷ 0 ∷ [])) (call (Store 1)) ≡ step (group true (0 ∷ 1 ∷ 2 ∷ [])) 1 none 3 (push 2 0 1 ∷ push 3 0 2 ∷ []))
     × (applyOf (group true (0 ∷ 1 ∷ 2 ∷ [])) (call (Leak (cell 3) 1)) ≡ step (group true (0 ∷ 1 ∷ 1 ∷ [])) 0 none 0 [])
-    × (applyOf (group true (0 ∷ 1 ∷ 1 ∷ [])) (call Scrub) ≡ step (group true (0 ∷ 1 ∷ 2 ∷ [])) 1 (some (PutRight (record { 0 = 1 }))) 1 (push 3 2 ∷ []))
+    × (applyOf (group true (0 ∷ 1 ∷ 1 ∷ [])) (call Scrub) ≡ step (group true (0 ∷ 1 ∷ 2 ∷ [])) 1 (some (PutRight (record { 0 = 1 }))) 1 (push 3 1 2 ∷ []))
     × (applyOf (group true (0 ∷ 1 ∷ 2 ∷ [])) (call Read) ≡ step (group true (0 ∷ 1 ∷ 2 ∷ [])) 1 (some Clean) 0 [])
-unfolding refusals.answer refusals.numberOf level put leaked atMost rises allAtMost isRow singles top floorOver lift raise pushOf rankPushes pushes raised fits pushed openOf leakOf storeOf scrubOf applyOf wordOf orderFrom K wordAt words vectors vectorsFrom joined select leaves weight above insert sorted sensed readOf readingAt correction firstBelow isCodeword symbolOf wordNumber indexOf same coordinatesTo coordinateOf
+unfolding refusals.answer refusals.numberOf level put leaked atMost allAtMost isRow singles top floorOver lift raise pushOf rankPushes pushes pulsesIn raised fits pushed openOf leakOf storeOf scrubOf applyOf wordOf orderFrom K wordAt words vectors vectorsFrom joined select leaves weight above insert sorted sensed readOf readingAt correction firstBelow isCodeword symbolOf wordNumber indexOf same coordinatesTo coordinateOf
 case-printed = (refl, refl, refl, refl, refl)

@@ -20,7 +20,7 @@ use Rattle.group.specs.Record.{opened, noGroup}
 use Rattle.push_up.specs.PushUp.{singles}
 use Rattle.push_up.specs.WriteAnswer.{raised, fits, pushChecks, pushed}
 use Rattle.group.specs.Changes.{openOf}
-use Rattle.group.proofs.Levels.{at-most-refl, at-most-trans, sum, sum-mono, rises-up, leaked-mono, leaked-loss}
+use Rattle.group.proofs.Levels.{at-most-refl, at-most-trans, sum, sum-mono, rises-up, rises-down, leaked-mono, leaked-loss}
 use Rattle.push_up.proofs.Minimal.{raise-above, raise-least}
 use Rattle.group.proofs.Groups.{IsGroup, open-group}
 use Rattle.push_up.proofs.Writes.{push-holds, fits-where}
@@ -30,7 +30,7 @@ use Rattle.plain_machine.specs.declared.Call.{Call}
 use Rattle.engine.specs.Scrub.{quiet}
 use Rattle.plain_machine.specs.Machine.{writes, targetBy, target, earlierChecks, applyOf, checks}
 use Rattle.rivals.specs.Rivals.{Rival, standing, Raised, Follows, Moves, entrant, latest, after, pulsesOf, plainAfter, Course, rest, next, plain, own, Raisable, Demand3, MeetsDemand3}
-use Rattle.plain_machine.proofs.Machine.{acceptBy, accept, apply-number, apply-value, same-group, apply-group, target-shows, done-checks, done-pushes, worn-beyond, apply-rises}
+use Rattle.plain_machine.proofs.Machine.{acceptBy, accept, apply-number, apply-value, same-group, apply-group, target-shows, done-checks, done-pushes, worn-beyond, kept-rises, apply-rises}
 
 -- the rival r beside the group g, whose answers have added up to q
 pub record Beside (g : Group) (q : ℕ) (r : Rival) : Type 0 where
@@ -40,7 +40,7 @@ pub record Beside (g : Group) (q : ℕ) (r : Rival) : Type 0 where
 
 -- it stays so when both are raised
 beside-push : (g : Group) (q : ℕ) (r s : Rival) (t : List ℕ) → Raised t r s → Beside g q r
-    → Beside (pushed g t .group) (q + pushed g t .pulses) s
+    → Beside (pushed g t .group) (q + rises (g .levels) (pushed g t .group .levels)) s
 unfolding pushed raised
 beside-push g q r s t m b =
     let old-low = at-most-trans (b .low) (m .no-lower) in
@@ -75,7 +75,7 @@ group-after g (c ∷ cs) h = group-after (applyOf g c .value .group) cs (apply-g
 -- ---- every rival stays beside us
 
 beside-accept : (g : Group) (q : ℕ) (o : Order) (k : Kind) (r s : Rival) → Follows k (targetBy g o k) r s → Beside g q r
-    → Beside (acceptBy g o k .group) (q + acceptBy g o k .pulses) s
+    → Beside (acceptBy g o k .group) (q + rises (g .levels) (acceptBy g o k .group .levels)) s
 unfolding Follows
 beside-accept g q o Write r s m b = beside-push g q r s _ m b
 beside-accept g q o (WriteInto room) r s m b = beside-push g q r s _ m b
@@ -86,38 +86,38 @@ beside-accept g q o (Leak c d) r s m b =
     (record {
       caps = b .caps;
       low = leaked-mono (c .0) d (b .low);
-      cost = omega (arith, b .cost, leaked-loss (c .0) d (b .low));
+      cost = omega (arith, kept-rises g o (Leak c d) refl, b .cost, leaked-loss (c .0) d (b .low));
     })
-beside-accept g q o (Wear c cap) r s m b = rw m (record { caps = rw (b .caps); low = b .low; cost = omega (arith, b .cost) })
+beside-accept g q o (Wear c cap) r s m b = rw m (record { caps = rw (b .caps); low = b .low; cost = omega (arith, kept-rises g o (Wear c cap) refl, b .cost) })
 beside-accept g q o Erase r s m b =
     rw m
-    (record { caps = b .caps; low = at-most-refl (replicate 12 0); cost = omega (arith, b .cost, sum-mono (b .low)) })
-beside-accept g q o Read r s m b = rw m (record { caps = b .caps; low = b .low; cost = omega (arith, b .cost) })
+    (record { caps = b .caps; low = at-most-refl (replicate 12 0); cost = omega (arith, kept-rises g o Erase refl, b .cost, sum-mono (b .low)) })
+beside-accept g q o Read r s m b = rw m (record { caps = b .caps; low = b .low; cost = omega (arith, kept-rises g o Read refl, b .cost) })
 
 beside-answer : (k : ℕ) (g : Group) (q : ℕ) (c : Call) (r s : Rival) → Moves k (c .kind) (target g c) r s → Beside g q r
-    → Beside (ifDone k (accept g c) (quiet g) .group) (q + ifDone k (accept g c) (quiet g) .pulses) s
+    → let t = ifDone k (accept g c) (quiet g) in Beside (t .group) (q + rises (g .levels) (t .group .levels)) s
 unfolding Moves
 beside-answer zero g q c r s m b = beside-accept g q (c .target) (c .kind) r s m b
-beside-answer (suc k) g q c r s m b = rw m (record { caps = b .caps; low = b .low; cost = omega (arith, b .cost) })
+beside-answer (suc k) g q c r s m b = rw m (record { caps = b .caps; low = b .low; cost = omega (arith, rises-down (at-most-refl (g .levels)), b .cost) })
 
-beside-step : (g : Group) (q : ℕ) (c : Call) (r s : Rival) → Moves (applyOf g c .number) (c .kind) (target g c) r s → Beside g q r
+beside-step : (g : Group) (q : ℕ) (c : Call) (r s : Rival) → IsGroup g → Moves (applyOf g c .number) (c .kind) (target g c) r s → Beside g q r
     → Beside (applyOf g c .value .group) (q + applyOf g c .value .pulses) s
-beside-step g q c r s m b =
-    rw (apply-value g c) (beside-answer (numberOf (checks g c)) g q c r s (rw (apply-number g c) at m) b)
+beside-step g q c r s h m b =
+    rw (← apply-rises g c (h .levels), apply-value g c) (beside-answer (numberOf (checks g c)) g q c r s (rw (apply-number g c) at m) b)
 
-beside-course : {g p : Group} {r : Rival} {cs : List Call} {ss : List Rival} (q : ℕ) → p ≡ g → Course applyOf g p r cs ss → Beside g q r
+beside-course : {g p : Group} {r : Rival} {cs : List Call} {ss : List Rival} (q : ℕ) → IsGroup g → p ≡ g → Course applyOf g p r cs ss → Beside g q r
     → Beside (after applyOf g cs) (q + pulsesOf applyOf g cs) (latest r ss)
 unfolding after pulsesOf latest
-beside-course q e rest b = rw add-zero b
-beside-course q e (next {g} {p} {r} {s} {c} m k) b =
+beside-course q h e rest b = rw add-zero b
+beside-course q h e (next {g} {p} {r} {s} {c} m k) b =
     let same : plainAfter (applyOf g c .number) p c ≡ applyOf g c .value .group = rw e (plain-step g c) in
-    rw (← add-assoc) (beside-course _ same k (beside-step g q c r s (rw e at m) b))
+    rw (← add-assoc) (beside-course _ (apply-group g c h) same k (beside-step g q c r s h (rw e at m) b))
 
 -- ---- our own course is that of a rival
 
 -- a write, store or scrub that is not refused is open to us
 our-raise : (g : Group) (q : ℕ) (c : Call) → IsGroup g → writes (c .kind) ≡ true → numberOf (checks g c) ≡ 0
-    → Raised (target g c) (standing g q) (standing (pushed g (target g c) .group) (q + pushed g (target g c) .pulses))
+    → Raised (target g c) (standing g q) (standing (pushed g (target g c) .group) (q + rises (g .levels) (pushed g (target g c) .group .levels)))
 unfolding pushed raised
 our-raise g q c h w e =
     let t = done-checks g c w e in
@@ -130,28 +130,28 @@ our-raise g q c h w e =
     }
 
 our-accept : (g : Group) (q : ℕ) (o : Order) (k : Kind) → IsGroup g → numberOf (checks g (record { kind = k; target = o })) ≡ 0
-    → Follows k (targetBy g o k) (standing g q) (standing (acceptBy g o k .group) (q + acceptBy g o k .pulses))
+    → Follows k (targetBy g o k) (standing g q) (standing (acceptBy g o k .group) (q + rises (g .levels) (acceptBy g o k .group .levels)))
 unfolding Follows
 our-accept g q o Write h e = our-raise g q (record { kind = Write; target = o }) h refl e
 our-accept g q o (WriteInto room) h e = our-raise g q (record { kind = WriteInto room; target = o }) h refl e
 our-accept g q o (Store s) h e = our-raise g q (record { kind = Store s; target = o }) h refl e
 our-accept g q o Scrub h e = our-raise g q (record { kind = Scrub; target = o }) h refl e
-our-accept g q o (Leak c d) h e = rw add-zero
-our-accept g q o (Wear c cap) h e = rw add-zero
-our-accept g q o Erase h e = rw add-zero
-our-accept g q o Read h e = rw add-zero
+our-accept g q o (Leak c d) h e = rw (kept-rises g o (Leak c d) refl, add-zero)
+our-accept g q o (Wear c cap) h e = rw (kept-rises g o (Wear c cap) refl, add-zero)
+our-accept g q o Erase h e = rw (kept-rises g o Erase refl, add-zero)
+our-accept g q o Read h e = rw (kept-rises g o Read refl, add-zero)
 
 our-answer : (k : ℕ) (g : Group) (q : ℕ) (c : Call) → IsGroup g → numberOf (checks g c) ≡ k
     → let t = ifDone k (accept g c) (quiet g) in
-    Moves k (c .kind) (target g c) (standing g q) (standing (t .group) (q + t .pulses))
+    Moves k (c .kind) (target g c) (standing g q) (standing (t .group) (q + rises (g .levels) (t .group .levels)))
 unfolding Moves
 our-answer zero g q c h e = our-accept g q (c .target) (c .kind) h e
-our-answer (suc k) g q c h e = rw add-zero
+our-answer (suc k) g q c h e = rw (rises-down (at-most-refl (g .levels)), add-zero)
 
 our-step : (g : Group) (q : ℕ) (c : Call) → IsGroup g
     → Moves (applyOf g c .number) (c .kind) (target g c) (standing g q)
     (standing (applyOf g c .value .group) (q + rises (g .levels) (applyOf g c .value .group .levels)))
-our-step g q c h = rw (apply-rises g c, apply-number g c, apply-value g c) (our-answer (numberOf (checks g c)) g q c h refl)
+our-step g q c h = rw (apply-number g c, apply-value g c) (our-answer (numberOf (checks g c)) g q c h refl)
 
 our-course : (g : Group) (q : ℕ) (cs : List Call) → IsGroup g → Course applyOf g g (standing g q) cs (own applyOf g q cs)
 unfolding own
@@ -163,11 +163,11 @@ our-course g q (c ∷ cs) h =
     next (our-step g q c h) later
 
 -- it ends at our group, with the pulses of our answers
-pub our-end : (g : Group) (q : ℕ) (cs : List Call)
+pub our-end : (g : Group) (q : ℕ) (cs : List Call) → IsGroup g
     → latest (standing g q) (own applyOf g q cs) ≡ standing (after applyOf g cs) (q + pulsesOf applyOf g cs)
 unfolding own latest after pulsesOf
-our-end g q [] = rw add-zero
-our-end g q (c ∷ cs) = our-end (applyOf g c .value .group) _ cs ∙ rw (apply-rises g c, add-assoc)
+our-end g q [] h = rw add-zero
+our-end g q (c ∷ cs) h = our-end (applyOf g c .value .group) _ cs (apply-group g c h) ∙ rw (apply-rises g c (h .levels), add-assoc)
 
 -- ---- the demand, for a group and a list of calls
 
@@ -184,7 +184,7 @@ module _ (g : Group) (h : IsGroup g) (cs : List Call) where
 
   pub side : (ss : List Rival) → Course applyOf g g (entrant g) cs ss → Beside now (0 + spent) (latest (entrant g) ss)
   unfolding entrant
-  side ss k = beside-course 0 refl k (record { caps = refl; low = at-most-refl (g .levels); cost = le-refl _ })
+  side ss k = beside-course 0 h refl k (record { caps = refl; low = at-most-refl (g .levels); cost = le-refl _ })
 
   open-passes : (c : Call) → Open c → numberOf (pushChecks now (target now c)) ≡ 0
   unfolding Raisable
@@ -193,7 +193,7 @@ module _ (g : Group) (h : IsGroup g) (cs : List Call) where
   done-open : (c : Call) → writes (c .kind) ≡ true → numberOf (checks now c) ≡ 0 → Open c
   unfolding Raisable entrant
   done-open c w e =
-      (own applyOf g 0 cs, our-course g 0 cs h, _, rw (← our-end g 0 cs) at (our-raise now (0 + spent) c (group-after g cs h) w e))
+      (own applyOf g 0 cs, our-course g 0 cs h, _, rw (← our-end g 0 cs h) at (our-raise now (0 + spent) c (group-after g cs h) w e))
 
   not-open : (c : Call) → writes (c .kind) ≡ true → numberOf (earlierChecks now c) ≡ 0 → applyOf now c .number ≡ 8 → ¬ (Open c)
   not-open c w e is-worn k = absurd (omega (arith, is-worn, apply-number now c, done-pushes now c w e (open-passes c k)))
@@ -214,7 +214,7 @@ module _ (g : Group) (h : IsGroup g) (cs : List Call) where
         lowest = λ ss k. side ss k .low;
         cheapest = λ ss k. let b = side ss k in omega (arith, b .cost, sum-mono (b .low));
         ours = our-course g 0 cs h;
-        exact = ap (λ (r : Rival). r .pulses) (our-end g 0 cs) ∙ zero-add spent;
+        exact = ap (λ (r : Rival). r .pulses) (our-end g 0 cs h) ∙ zero-add spent;
         worn-exactly = λ c w e. rw (plain-ours g cs) (not-open c w e, shut-worn c w e);
       }
 

@@ -159,7 +159,7 @@ module _ (run : Machine) where
     same-levels : after run start cs .levels ≡ after applyOf start cs .levels
     unfolding entrant
     same-levels =
-        let above = rw (our-end start 0 cs) at (theirs .lowest (own applyOf start 0 cs) our-rival) in
+        let above = rw (our-end start 0 cs group) at (theirs .lowest (own applyOf start 0 cs) our-rival) in
         let below = rw (own-end start 0 cs .0) at (ours .lowest (own run start 0 cs) their-rival) in
         at-most-antisym above below
 

@@ -17,7 +17,7 @@ use Rattle.order.specs.Order.{cellNumbers, isOrderOf, orderRecord}
 use Rattle.coordinates.specs.Coordinates.{coordinatesTo, coordinateOf}
 use Rattle.decoder.specs.Decoding.{weight, leaves, isCodeword, firstBelow, correction}
 use Rattle.group.specs.Levels.{level, put, AtMost, atMost, rises}
-use Rattle.push_up.specs.PushUp.{singles, top, floorOver, Reach, Shows, lift, raise}
+use Rattle.push_up.specs.PushUp.{singles, top, floorOver, Reach, Shows, lift, raise, pushOf, rankPushes, pushes, pulsesIn}
 use Rattle.group.specs.declared.Group.{Group}
 use Rattle.group.specs.Record.{allAtMost, isRow, opened, changed, withLevels}
 use Rattle.push_up.specs.WriteAnswer.{raised, fits, pushed, writeOf}
@@ -106,7 +106,7 @@ blamer-refuted = fails blamer [] (λ d. let e : _≡_ {A = ℕ} 8 6 = d .answere
 
 -- what the plain machine answers to that write
 plain-answer : let t = applyOf start call in (t .number ≡ 0) × (t .value .group .levels ≡ least) × (t .value .pulses ≡ 3)
-unfolding applyOf writeOf answer pushed rises numberOf isRow allAtMost orderRecord cellNumbers isOrderOf isListing isOrder eachOnce allZero fits raised raise lift singles floorOver top level put atMost
+unfolding applyOf writeOf answer pushed pushes rankPushes pushOf pulsesIn numberOf isRow allAtMost orderRecord cellNumbers isOrderOf isListing isOrder eachOnce allZero fits raised raise lift singles floorOver top level put atMost
 plain-answer = (refl, refl, refl)
 
 -- the plain machine, but for the writes, stores and scrubs that it accepts

@@ -11,7 +11,7 @@
 --   displaced ds        displacements in twelve places. `pos k` is the number k, and `negsuc k` is −(k + 1): `negsuc 0` is −1
 --   capped w ls cs      the group of these levels and caps; w is its mark "written"
 --   group w ls          the same, every cell capped at 4,095
---   push c level        the push of a cell to its new level
+--   push c start reach  the push of a cell from one level to another
 --   program g k ps      what the answer to a write or a store carries: the group after it, k pulses, how many pushes, and the pushes in
 --                       eleven places
 --   done a              the answer with number 0 that carries a
@@ -64,11 +64,11 @@ capped w ls cs = record { n = length ls; levels = places 12 0 ls; caps = places 
 abbrev pub group : Bool → List ℕ → Group
 group w ls = capped w ls (replicate (length ls) 4095)
 
-abbrev pub push : ℕ → ℕ → Push
-push c level = record { cell = cell c; level = level }
+abbrev pub push : ℕ → ℕ → ℕ → Push
+push c start reach = record { cell = cell c; start = start; reach = reach }
 
 abbrev pub program : Group → ℕ → List Push → Program
-program g k ps = record { group = g; pulses = k; count = length ps; pushes = places 11 (push 0 0) ps }
+program g k ps = record { group = g; pulses = k; count = length ps; pushes = places 11 (push 0 0 0) ps }
 
 abbrev pub done : {A : Type 0} → A → Told A
 done a = record { number = 0; value = a }
@@ -117,11 +117,11 @@ EachRight (f ∷ fs) = IsRight f × EachRight fs
 abbrev pub starred : List Fact
 starred =
     -- 1. "Levels (3,4,2,1), write [2,1,4,3]: pushes 4 to 3, 1 to 4, 2 to 5; levels (4,5,2,3); 4 pulses; cost 1."
-    writeGives (group false (3 ∷ 4 ∷ 2 ∷ 1 ∷ [])) (2 ∷ 1 ∷ 4 ∷ 3 ∷ []) (done (program (group true (4 ∷ 5 ∷ 2 ∷ 3 ∷ [])) 4 (push 4 3 ∷ push 1 4 ∷ push 2 5 ∷ [])))
+    writeGives (group false (3 ∷ 4 ∷ 2 ∷ 1 ∷ [])) (2 ∷ 1 ∷ 4 ∷ 3 ∷ []) (done (program (group true (4 ∷ 5 ∷ 2 ∷ 3 ∷ [])) 4 (push 4 1 3 ∷ push 1 3 4 ∷ push 2 4 5 ∷ [])))
     ∷ senseGives (group false (3 ∷ 4 ∷ 2 ∷ 1 ∷ [])) (done (order (2 ∷ 1 ∷ 3 ∷ 4 ∷ [])))
     ∷ costGives (2 ∷ 1 ∷ 3 ∷ 4 ∷ []) (2 ∷ 1 ∷ 4 ∷ 3 ∷ []) (done (pos 1))
     -- 2. "Levels (4,3,2,1), same target: pushes 4 to 3, 2 to 5; 4 pulses; displacements +1, −1, +1, −1."
-    ∷ writeGives (group false (4 ∷ 3 ∷ 2 ∷ 1 ∷ [])) (2 ∷ 1 ∷ 4 ∷ 3 ∷ []) (done (program (group true (4 ∷ 5 ∷ 2 ∷ 3 ∷ [])) 4 (push 4 3 ∷ push 2 5 ∷ [])))
+    ∷ writeGives (group false (4 ∷ 3 ∷ 2 ∷ 1 ∷ [])) (2 ∷ 1 ∷ 4 ∷ 3 ∷ []) (done (program (group true (4 ∷ 5 ∷ 2 ∷ 3 ∷ [])) 4 (push 4 1 3 ∷ push 2 3 5 ∷ [])))
     ∷ senseGives (group false (4 ∷ 3 ∷ 2 ∷ 1 ∷ [])) (done (order (1 ∷ 2 ∷ 3 ∷ 4 ∷ [])))
     ∷ displacementsGive (1 ∷ 2 ∷ 3 ∷ 4 ∷ []) (2 ∷ 1 ∷ 4 ∷ 3 ∷ []) (done (displaced (pos 1 ∷ negsuc 0 ∷ pos 1 ∷ negsuc 0 ∷ [])))
     -- 3. "[3,4,1,2] has coordinates (0,2,2), reads as [3,1,4,2], place 2." It shows in levels (2,1,4,3).
@@ -147,8 +147,8 @@ starred =
     ∷ coordinatesGive (3 ∷ 2 ∷ 4 ∷ 1 ∷ []) (done (coordinates (1 ∷ 2 ∷ 1 ∷ [])))
     ∷ coordinatesGive (3 ∷ 1 ∷ 4 ∷ 2 ∷ []) (done (coordinates (0 ∷ 2 ∷ 1 ∷ [])))
     -- 8. "n = 3, levels 0, store 1: levels (0,1,2). Cell 3 capped at 2: done. Capped at 1: refused 8."
-    ∷ storeGives (group false (0 ∷ 0 ∷ 0 ∷ [])) 1 (done (program (group true (0 ∷ 1 ∷ 2 ∷ [])) 3 (push 2 1 ∷ push 3 2 ∷ [])))
-    ∷ storeGives (capped false (0 ∷ 0 ∷ 0 ∷ []) (4095 ∷ 4095 ∷ 2 ∷ [])) 1 (done (program (capped true (0 ∷ 1 ∷ 2 ∷ []) (4095 ∷ 4095 ∷ 2 ∷ [])) 3 (push 2 1 ∷ push 3 2 ∷ [])))
+    ∷ storeGives (group false (0 ∷ 0 ∷ 0 ∷ [])) 1 (done (program (group true (0 ∷ 1 ∷ 2 ∷ [])) 3 (push 2 0 1 ∷ push 3 0 2 ∷ [])))
+    ∷ storeGives (capped false (0 ∷ 0 ∷ 0 ∷ []) (4095 ∷ 4095 ∷ 2 ∷ [])) 1 (done (program (capped true (0 ∷ 1 ∷ 2 ∷ []) (4095 ∷ 4095 ∷ 2 ∷ [])) 3 (push 2 0 1 ∷ push 3 0 2 ∷ [])))
     ∷ storeGives (capped false (0 ∷ 0 ∷ 0 ∷ []) (4095 ∷ 4095 ∷ 1 ∷ [])) 1 (refused 8 (program (capped false (0 ∷ 0 ∷ 0 ∷ []) (4095 ∷ 4095 ∷ 1 ∷ [])) 0 []))
     -- 9. "Levels (0,1,1), written: reads [2,3,1], symbol 1, put right at place 1."
     ∷ senseGives (group true (0 ∷ 1 ∷ 1 ∷ [])) (done (order (2 ∷ 3 ∷ 1 ∷ [])))

@@ -43,7 +43,7 @@ request-pulses g Bad b n = omega arith
 request-pulses g (Open k) b n = omega arith
 request-pulses g (Apply kind) b n =
     let new : Group = applyOf g (callOf kind) .value .group in
-    omega (arith, apply-rises g (callOf kind), rises-most (g .levels) (new .levels) (begun-levels new n .0), begun-levels g b .1)
+    omega (arith, apply-rises g (callOf kind) (begun-levels g b .1), rises-most (g .levels) (new .levels) (begun-levels new n .0), begun-levels g b .1)
 
 step-pulses : (g : Group) (r : CallRecord) → Begun g → stepOf g r .value .pulses ≤ 49140
 step-pulses g r b =

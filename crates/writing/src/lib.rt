@@ -79,7 +79,8 @@ fn raise_all(o: Order, old: [u16; 12]) -> PushUp
         if level < floor {
             // field by field: a push that is stored whole is copied with the byte between its fields
             pushes[count].cell.0 = cell.0;
-            pushes[count].level = floor;
+            pushes[count].start = level;
+            pushes[count].reach = floor;
             count += 1;
             levels[at] = floor;
             pulses += (floor - level) as u32;

@@ -1,4 +1,4 @@
--- `writing::unwritten` meets its contract.
+-- `push_up::unwritten` meets its contract.
 -- Assumes nothing.
 use borrow.Author.Needs.{needs}
 use Rattle.push_up.proofs.unwritten.Statement.{statement}
