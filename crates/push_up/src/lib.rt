@@ -2,13 +2,14 @@
 // laws. Proved of the push-up, over any gap and any ranks that list no cell twice: it lowers no cell, shows its target, and is at or below every set of
 // levels that does both (proofs/Minimal); its program, applied push by push to the old levels, gives the new ones, each push starts from where its cell
 // then stands, no cell is pushed twice, and the pulses are the sum of all rises (proofs/Programs); after a write a group is still a group
-// (proofs/Writes). The functions here make the answer of a call that writes nothing.
+// (proofs/Writes). The functions here hold levels to caps, and make the answer of a call that writes nothing.
 use group::Group;
 use order::Cell;
 use order::Outcome;
 ghost use mathlib.Core.Path.{_≡_};
 ghost use mathlib.Core.List.{[]};
 ghost use Rattle.order.specs.Refusals.{outcomeNumber};
+ghost use Rattle.group.specs.Levels.{atMost};
 ghost use Rattle.push_up.specs.WriteAnswer.{pushArray, toldWritten, unpushed};
 
 // A cell that rises, the level that it starts from and the level that it reaches.
@@ -49,4 +50,17 @@ pub fn zero_pushes() -> [Push; 11]
         start: 0,
         reach: 0,
     }; 11]
+}
+
+// Whether no level is above its cap.
+pub fn is_within(levels: [u16; 12], caps: [u16; 12]) -> bool
+    ensures { λ r. ⌜ r ≡ atMost levels caps ⌝ }
+{
+    let mut over: u16 = 0;
+    let mut at = 0;
+    while at < 12 {
+        over = over | group::excess(levels[at], caps[at]);
+        at += 1;
+    }
+    over == 0
 }

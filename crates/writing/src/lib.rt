@@ -11,7 +11,6 @@ ghost use mathlib.Core.Bool.{true};
 ghost use Prim.Native.Nat.{_≤_};
 ghost use Rattle.order.specs.Cells.{isOrder};
 ghost use Rattle.order.specs.Order.{listed};
-ghost use Rattle.group.specs.Levels.{atMost};
 ghost use Rattle.group.specs.Record.{allAtMost};
 ghost use Rattle.push_up.specs.WriteAnswer.{toldWritten, writeOf};
 ghost use Rattle.writing.specs.Steps.{pushUpTo};
@@ -40,7 +39,7 @@ pub fn write(g: Group, target: Order) -> Written
     let caps = g.caps;
     let p = raise_all(target, old);
     let levels = p.levels;
-    if !is_within(levels, caps) {
+    if !push_up::is_within(levels, caps) {
         return push_up::unwritten(Outcome::Refused(Refusal::Worn), g);
     }
     let pushes = p.pushes;
@@ -96,17 +95,4 @@ fn raise_all(o: Order, old: [u16; 12]) -> PushUp
         count,
         pushes,
     }
-}
-
-// Whether no level is above its cap.
-fn is_within(levels: [u16; 12], caps: [u16; 12]) -> bool
-    ensures { λ r. ⌜ r ≡ atMost levels caps ⌝ }
-{
-    let mut over: u16 = 0;
-    let mut at = 0;
-    while at < 12 {
-        over = over | group::excess(levels[at], caps[at]);
-        at += 1;
-    }
-    over == 0
 }
