@@ -1,5 +1,5 @@
 -- The push program of a minimal push-up is a program from the old levels to the new ones, for any gap and any ranks that list no cell twice; so is
--- the one that the answer to a write carries. By one relation, `Runs`.
+-- the one that the answer to a write carries. By one relation, `Runs`; that no cell is pushed twice, by counts.
 -- Assumes nothing.
 use mathlib.Core.Path.{_≡_, refl, sym, ap, _∙_}
 use mathlib.Core.Logic.{⊎-elim}
@@ -79,7 +79,7 @@ program-runs g (r ∷ rs) ls a =
     runs-append (program-runs g rs ls (a .1))
     (rank-runs rs ls (raise g rs ls) (floorOver g rs (raise g rs ls)) (raise-above g rs ls) (raise-other g rs ls) r (a .0))
 
--- ---- nothing is pushed more often than the ranks list it, and that is once at most, and only cells
+-- ---- nothing is pushed more often than the ranks list it, and that is once at most, and cells alone
 
 abbrev timesListed : ℕ → List (List ℕ) → ℕ
 timesListed c [] = 0

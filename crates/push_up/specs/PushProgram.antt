@@ -33,7 +33,7 @@ pub record IsPushProgram (ps : List Push) (old new : List ℕ) : Type 0 where
   pub gives : played ps old ≡ new
   -- each start is the level of its cell when that push begins, and below its reach
   pub starts : Starts ps old
-  -- no cell is pushed twice, and nothing but cells is pushed
+  -- no cell is pushed twice, and nothing is pushed that has no place among the levels
   pub once : (c : ℕ) → count c (cellsPushed ps) ≤ tally (isCell (length old) c)
   -- its pulses are the sum of all rises
   pub pulses : pulsesIn ps ≡ rises old new
