@@ -20,7 +20,7 @@ use Rattle.push_up.specs.declared.Push.{Push}
 use Rattle.group.specs.Levels.{level, put, atMost, leaked}
 use Rattle.group.specs.Record.{allAtMost, isRow}
 use Rattle.push_up.specs.PushUp.{singles, top, floorOver, lift, raise, pushOf, rankPushes, pushes, pulsesIn}
-use Rattle.sensing.specs.Sense.{above, insert, sorted, sensed}
+use Rattle.sensing.specs.Sense.{standsAbove, insert, sorted, sensed}
 use Rattle.push_up.specs.WriteAnswer.{raised, fits, pushed}
 use Rattle.group.specs.Changes.{openOf, leakOf}
 use Rattle.plain_machine.specs.declared.Kind.{Kind}
@@ -46,5 +46,5 @@ pub case-printed :
     × (applyOf (group true (0 ∷ 1 ∷ 2 ∷ [])) (call (Leak (cell 3) 1)) ≡ step (group true (0 ∷ 1 ∷ 1 ∷ [])) 0 none 0 [])
     × (applyOf (group true (0 ∷ 1 ∷ 1 ∷ [])) (call Scrub) ≡ step (group true (0 ∷ 1 ∷ 2 ∷ [])) 1 (some (PutRight (record { 0 = 1 }))) 1 (push 3 1 2 ∷ []))
     × (applyOf (group true (0 ∷ 1 ∷ 2 ∷ [])) (call Read) ≡ step (group true (0 ∷ 1 ∷ 2 ∷ [])) 1 (some Clean) 0 [])
-unfolding refusals.answer refusals.numberOf level put leaked atMost allAtMost isRow singles top floorOver lift raise pushOf rankPushes pushes pulsesIn raised fits pushed openOf leakOf storeOf scrubOf applyOf wordOf orderFrom K wordAt words vectors vectorsFrom joined select leaves weight above insert sorted sensed readOf readingAt correction firstBelow isCodeword symbolOf wordNumber indexOf same coordinatesTo coordinateOf
+unfolding refusals.answer refusals.numberOf level put leaked atMost allAtMost isRow singles top floorOver lift raise pushOf rankPushes pushes pulsesIn raised fits pushed openOf leakOf storeOf scrubOf applyOf wordOf orderFrom K wordAt words vectors vectorsFrom joined select leaves weight standsAbove insert sorted sensed readOf readingAt correction firstBelow isCodeword symbolOf wordNumber indexOf same coordinatesTo coordinateOf
 case-printed = (refl, refl, refl, refl, refl)

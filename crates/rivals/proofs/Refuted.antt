@@ -22,7 +22,7 @@ use Rattle.group.specs.declared.Group.{Group}
 use Rattle.group.specs.Record.{allAtMost, isRow, opened, changed, withLevels}
 use Rattle.push_up.specs.WriteAnswer.{raised, fits, pushed, writeOf}
 use Rattle.group.specs.Changes.{openOf, wearOf}
-use Rattle.sensing.specs.Sense.{above, insert, sorted, sensed}
+use Rattle.sensing.specs.Sense.{standsAbove, insert, sorted, sensed}
 use Rattle.engine.specs.ReadStore.{readOf}
 use Rattle.group.proofs.Levels.{at-most-true, at-most-level}
 use Rattle.plain_machine.specs.declared.Kind.{Kind}
@@ -219,7 +219,7 @@ unfolding spoiler after plain plainAfter applyOf writeOf answer pushed rises num
 spoiler-refuted = fails spoiler (call ∷ []) (λ d. let e : _≡_ {A = ℕ} 1 0 = d .handed call in omega arith)
 
 pub forgetter-refuted : ¬ (MeetsDemand3 forgetter)
-unfolding forgetter after plain plainAfter readOf sensed sorted insert above correction firstBelow isCodeword leaves weight coordinatesTo coordinateOf applyOf writeOf answer pushed rises numberOf isRow allAtMost orderRecord cellNumbers isOrderOf isListing isOrder eachOnce allZero fits raised raise lift singles floorOver top level put atMost
+unfolding forgetter after plain plainAfter readOf sensed sorted insert standsAbove correction firstBelow isCodeword leaves weight coordinatesTo coordinateOf applyOf writeOf answer pushed rises numberOf isRow allAtMost orderRecord cellNumbers isOrderOf isListing isOrder eachOnce allZero fits raised raise lift singles floorOver top level put atMost
 forgetter-refuted = fails forgetter (call ∷ []) (λ d. let e : _≡_ {A = ℕ} 6 0 = d .handed read-call in omega arith)
 
 -- one that takes a lent list of any room

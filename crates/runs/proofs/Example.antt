@@ -11,7 +11,7 @@ use Rattle.code.specs.Symbols.{wordOf, readingAt}
 use Rattle.group.specs.Levels.{level, put, atMost, leaked}
 use Rattle.group.specs.Record.{allAtMost, isRow}
 use Rattle.push_up.specs.PushUp.{singles, top, floorOver, lift, raise, pushOf, rankPushes, pushes, pulsesIn}
-use Rattle.sensing.specs.Sense.{above, insert, sorted, sensed}
+use Rattle.sensing.specs.Sense.{standsAbove, insert, sorted, sensed}
 use Rattle.push_up.specs.WriteAnswer.{raised, fits, pushed}
 use Rattle.group.specs.Changes.{openOf, leakOf}
 use Rattle.engine.specs.ReadStore.{readOf, storeOf}
@@ -42,5 +42,5 @@ text =
     ∷ []
 
 pub example-printed : textOf example ≡ text
-unfolding refusals.answer refusals.numberOf level put leaked atMost allAtMost isRow singles top floorOver lift raise pushOf rankPushes pushes pulsesIn raised fits pushed openOf leakOf storeOf scrubOf applyOf wordOf orderFrom K wordAt words vectors vectorsFrom joined select leaves weight above insert sorted sensed readOf readingAt correction firstBelow isCodeword symbolOf wordNumber indexOf same coordinatesTo coordinateOf recordAt records unusedZero requestOf stepOf spelled decimal numbersOf lineOf lines allPulses leftLine sumLine textOf
+unfolding refusals.answer refusals.numberOf level put leaked atMost allAtMost isRow singles top floorOver lift raise pushOf rankPushes pushes pulsesIn raised fits pushed openOf leakOf storeOf scrubOf applyOf wordOf orderFrom K wordAt words vectors vectorsFrom joined select leaves weight standsAbove insert sorted sensed readOf readingAt correction firstBelow isCodeword symbolOf wordNumber indexOf same coordinatesTo coordinateOf recordAt records unusedZero requestOf stepOf spelled decimal numbersOf lineOf lines allPulses leftLine sumLine textOf
 example-printed = refl

@@ -1,5 +1,5 @@
 -- Coordinate i of a reading's order counts the cells below i + 1 that do not stand above cell i + 1: a comparison of levels finds it, and no order
--- has to be made. The tie rule of reading comes in by `above` and `standsAfter`, which the four laws of the first section know and no other.
+-- has to be made. The rule of reading stays closed here.
 -- Assumes nothing.
 use Prim.Native.Nat.{ℕ, zero, suc, _+_, _-_, _≤_, _<_}
 use mathlib.Core.Path.{_≡_, refl, sym, ap, _∙_}
@@ -11,45 +11,22 @@ use native.Mathlib.Numerals.{add-one}
 use native.Mathlib.Omega.{arith}
 use lib.Dec.{ltb}
 use lib.ListN.{length, getD}
-use borrow.Author.Tests.{le-leb, lt-leb, lt-ltb, le-ltb}
+use borrow.Author.Tests.{lt-ltb, le-ltb}
 use Rattle.order.specs.Cells.{tally, countIf, count, below}
 use Rattle.order.proofs.Cells.{tally-ne, tally-le, eq-cases, lt-cases, order-count}
 use Rattle.coordinates.specs.Coordinates.{after, coordinateOf}
 use Rattle.group.specs.Levels.{level}
-use Rattle.sensing.specs.Sense.{above, insert, sorted, sensed}
+use Rattle.sensing.specs.Sense.{standsAbove, insert, sorted, sensed}
 use Rattle.push_up.proofs.Minimal.{Each}
-use Rattle.sensing.proofs.Sensed.{Stands, Sorted, each-count, sensed-sorted, sensed-is-order}
+use Rattle.sensing.proofs.Sensed.{Stands, stands-above, stands-below, Sorted, each-count, sensed-sorted, sensed-is-order}
 use Rattle.window.specs.Ring.{windowOrder}
 use Rattle.window.specs.Steps.{standsAfter}
-
--- ---- the tie rule
-
-module _ (ls : List ℕ) (x d : ℕ) (l : x < d) where
-  stands-above : Stands ls x d → above ls x d ≡ true
-  unfolding above
-  stands-above s = le-leb (level ls d) (level ls x) (⊎-elim (λ t. omega arith) (λ t. omega arith) s)
-
-  stands-below : Stands ls d x → above ls x d ≡ false
-  unfolding above
-  stands-below s = lt-leb (level ls d) (level ls x) (⊎-elim (λ t. t) (λ t. absurd (omega arith)) s)
-
-  after-below : standsAfter (level ls x) (level ls d) ≡ tally (not (above ls x d))
-  unfolding above standsAfter
-  after-below =
-      ⊎-elim
-      (λ t. rw (t .1, lt-leb (level ls d) (level ls x) (t .0)))
-      (λ t. rw (t .1, le-leb (level ls d) (level ls x) (t .0)))
-      (lt-cases (level ls x) (level ls d))
-
-after-one : (a b : ℕ) → standsAfter a b ≤ 1
-unfolding standsAfter
-after-one a b = tally-le (ltb a b)
 
 -- ---- two cells of a window
 
 -- cell x is below cell d in number, and stands below it too
 unfoldable pub under : List ℕ → ℕ → ℕ → Bool
-under ls d x = ltb x d && not (above ls x d)
+under ls d x = ltb x d && not (standsAbove (level ls x) (level ls d))
 
 level-next : (ls : List ℕ) (c : ℕ) → level ls (suc c) ≡ getD ls c 0
 unfolding level
@@ -57,9 +34,12 @@ level-next ls c = let e : suc c - 1 ≡ c = omega arith in rw e
 
 -- the levels of the two tell
 under-levels : (ls : List ℕ) (i j : ℕ) → j < i → tally (under ls (suc i) (suc j)) ≡ standsAfter (getD ls j 0) (getD ls i 0)
-unfolding under
-under-levels ls i j l =
-    rw (← level-next ls i, ← level-next ls j, lt-ltb (suc j) (suc i) (omega arith)) (sym (after-below ls (suc j) (suc i) (omega arith)))
+unfolding under standsAfter
+under-levels ls i j l = rw (← level-next ls i, ← level-next ls j, lt-ltb (suc j) (suc i) (omega arith)) refl
+
+after-one : (a b : ℕ) → standsAfter a b ≤ 1
+unfolding standsAfter
+after-one a b = tally-le (not (standsAbove a b))
 
 -- ---- in a list by falling level
 
@@ -105,22 +85,22 @@ count-to-le test zero = omega arith
 count-to-le test (suc j) = omega (arith, count-to-le test j, tally-le (test (suc j)))
 
 module _ (test : ℕ → Bool) (ls : List ℕ) where
-  countIf-insert : (c : ℕ) (ds : List ℕ) → countIf test (insert ls c ds) ≡ tally (test c) + countIf test ds
+  countIf-insert : (c : ℕ) (ds : List ℕ) → countIf test (insert standsAbove ls c ds) ≡ tally (test c) + countIf test ds
   unfolding insert
   countIf-insert c [] = refl
-  countIf-insert c (d ∷ ds) = go (above ls c d) (countIf-insert c ds)
+  countIf-insert c (d ∷ ds) = go (standsAbove (level ls c) (level ls d)) (countIf-insert c ds)
     where
-      go : (b : Bool) → countIf test (insert ls c ds) ≡ tally (test c) + countIf test ds
-          → countIf test (cond b (c ∷ d ∷ ds) (d ∷ insert ls c ds)) ≡ tally (test c) + (tally (test d) + countIf test ds)
+      go : (b : Bool) → countIf test (insert standsAbove ls c ds) ≡ tally (test c) + countIf test ds
+          → countIf test (cond b (c ∷ d ∷ ds) (d ∷ insert standsAbove ls c ds)) ≡ tally (test c) + (tally (test d) + countIf test ds)
       go true e = refl
       go false e = omega arith
 
-  sorted-count : (b k : ℕ) → countIf test (sorted ls (suc b) k) + countTo test b ≡ countTo test (b + k)
+  sorted-count : (b k : ℕ) → countIf test (sorted standsAbove ls (suc b) k) + countTo test b ≡ countTo test (b + k)
   unfolding sorted countTo
   sorted-count b zero = rw (add-zero b) (omega arith)
   sorted-count b (suc k) =
       let e : b + suc k ≡ suc b + k = omega arith in
-      rw e (omega (arith, countIf-insert (suc b) (sorted ls (suc (suc b)) k), sorted-count (suc b) k))
+      rw e (omega (arith, countIf-insert (suc b) (sorted standsAbove ls (suc (suc b)) k), sorted-count (suc b) k))
 
 count-one : (test : ℕ → Bool) (i : ℕ) → countTo test (i + 1) ≡ countTo test i + tally (test (suc i))
 unfolding countTo
@@ -140,9 +120,9 @@ coordinate-under n ls i l =
     let test = under ls (suc i) in
     let o = sensed-is-order n ls in
     let e : i + (n - i) ≡ n = omega arith in
-    let all : countIf test (sorted ls 1 n) + countTo test 0 ≡ countTo test (0 + n) = sorted-count test ls 0 n in
+    let all : countIf test (sorted standsAbove ls 1 n) + countTo test 0 ≡ countTo test (0 + n) = sorted-count test ls 0 n in
     let f : 0 + n ≡ i + (n - i) = omega arith in
-    after-under ls (suc i) (sorted ls 1 n) (sensed-sorted n ls) (omega (arith, order-count n (sensed n ls) o i l))
+    after-under ls (suc i) (sorted standsAbove ls 1 n) (sensed-sorted n ls) (omega (arith, order-count n (sensed n ls) o i l))
     ∙ omega (arith, all, count-to-le test 0, ap (countTo test) f, count-stop ls i (n - i))
 
 -- ---- two coordinates in one sweep

@@ -200,9 +200,13 @@ fn two_coordinates(window: &[u16], i: usize) -> TwoCoordinates
     TwoCoordinates { here, next }
 }
 
-// 1 where a cell stands after a later one in the order, else 0, by their levels: the tie rule of reading.
+// 1 where a cell stands after a later one in the order, else 0, by the rule of reading.
 fn stands_after(level: u16, later: u16) -> u32
     ensures { λ r. ⌜ r ≡ standsAfter level later ⌝ }
 {
-    if level < later { 1 } else { 0 }
+    if sensing::stands_above(level, later) {
+        0
+    } else {
+        1
+    }
 }

@@ -11,7 +11,7 @@ use Rattle.order.specs.Cells.{countIf}
 use Rattle.coordinates.specs.Coordinates.{coordinateOf}
 use Rattle.group.specs.Levels.{level, put}
 use Rattle.group.specs.Record.{allAtMost, isRow}
-use Rattle.sensing.specs.Sense.{above, insert, sorted, sensed}
+use Rattle.sensing.specs.Sense.{standsAbove, insert, sorted, sensed}
 use Rattle.window.specs.Ring.{factorial, factorialSum, orderNumber, windowNumber, windowAt, windowNumbers}
 use Rattle.cell_run.specs.declared.Run.{Run}
 use Rattle.cell_run.specs.Run.{runChecks, levelChecks, openRunOf, raiseCellOf}
@@ -39,12 +39,12 @@ unfolding windowAt
 representation = refl
 
 backwards-same : map backwards (0 ∷ 3 ∷ 6 ∷ []) ≡ map lowerToTheRight (0 ∷ 3 ∷ 6 ∷ [])
-unfolding windowAt sensed sorted insert above level coordinateOf
+unfolding windowAt sensed sorted insert standsAbove level coordinateOf
 backwards-same = refl
 
 -- the last window wraps round; the ring turned by a step has the same numbers, turned by one
 figure-numbers : (windowNumbers figure 5 3 ≡ 44 ∷ 78 ∷ 35 ∷ []) × (windowNumbers (turned 3 figure) 5 3 ≡ 78 ∷ 35 ∷ 44 ∷ [])
-unfolding windowNumbers windowNumber orderNumber windowAt turned factorialSum factorial sensed sorted insert above level coordinateOf
+unfolding windowNumbers windowNumber orderNumber windowAt turned factorialSum factorial sensed sorted insert standsAbove level coordinateOf
 figure-numbers = (refl, refl)
 
 -- ---- the ends
@@ -53,7 +53,7 @@ figure-numbers = (refl, refl)
 highest :
     (windowNumber (1 ∷ 2 ∷ 3 ∷ 4 ∷ 5 ∷ 6 ∷ 7 ∷ 8 ∷ 9 ∷ 10 ∷ 11 ∷ 12 ∷ []) ≡ 479001599)
     × (windowNumber (12 ∷ 11 ∷ 10 ∷ 9 ∷ 8 ∷ 7 ∷ 6 ∷ 5 ∷ 4 ∷ 3 ∷ 2 ∷ 1 ∷ []) ≡ 0)
-unfolding windowNumber orderNumber factorialSum factorial sensed sorted insert above level coordinateOf
+unfolding windowNumber orderNumber factorialSum factorial sensed sorted insert standsAbove level coordinateOf
 highest = (refl, refl)
 
 -- ---- level cells
@@ -63,7 +63,7 @@ tied = 2 ∷ 1 ∷ 1 ∷ 2 ∷ []
 
 -- they go by their numbers in the window: by those in the ring the last two windows, which wrap round, would have the numbers 5 and 1
 level-cells : windowNumbers tied 3 1 ≡ 0 ∷ 4 ∷ 3 ∷ 0 ∷ []
-unfolding windowNumbers windowNumber orderNumber windowAt factorialSum factorial sensed sorted insert above level coordinateOf
+unfolding windowNumbers windowNumber orderNumber windowAt factorialSum factorial sensed sorted insert standsAbove level coordinateOf
 level-cells = refl
 
 -- ---- whole calls
@@ -76,7 +76,7 @@ filled :
     (windowsOf (levelChecks tied) tied 3 1 numbers numbers ≡ record { number = 0; value = 4 })
     × (numbersAfter (levelChecks tied) tied 3 1 numbers numbers ≡ 0 ∷ 4 ∷ 3 ∷ 0 ∷ 7 ∷ [])
     × (scratchAfter (levelChecks tied) tied 3 1 numbers numbers ≡ 2 ∷ 1 ∷ 1 ∷ 2 ∷ 7 ∷ [])
-unfolding windowsOf numbersAfter scratchAfter scratchLevels allAtMost answer numberOf windowNumbers windowNumber orderNumber windowAt factorialSum factorial sensed sorted insert above level coordinateOf
+unfolding windowsOf numbersAfter scratchAfter scratchLevels allAtMost answer numberOf windowNumbers windowNumber orderNumber windowAt factorialSum factorial sensed sorted insert standsAbove level coordinateOf
 filled = (refl, refl, refl)
 
 -- a step of 3 does not divide the length: 13, before a scratch of 3 places, which is too short
