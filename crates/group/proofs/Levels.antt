@@ -14,7 +14,11 @@ use borrow.Author.Tests.{leb-true, le-leb}
 use Rattle.order.proofs.Cells.{both}
 use Rattle.group.specs.Levels.{level, put, AtMost, empty, more, atMost, rises, leaked}
 
--- ---- reading after a change
+-- ---- reading, and reading after a change
+
+pub level-next : (ls : List ℕ) (c : ℕ) → level ls (suc c) ≡ getD ls c 0
+unfolding level
+level-next ls c = let e : suc c - 1 ≡ c = omega arith in rw e
 
 pub level-put : (ls : List ℕ) (c v : ℕ) → c - 1 < length ls → level (put ls c v) c ≡ v
 unfolding level put

@@ -16,6 +16,7 @@ use Rattle.order.specs.Cells.{tally, countIf, count, below}
 use Rattle.order.proofs.Cells.{tally-ne, tally-le, eq-cases, lt-cases, order-count}
 use Rattle.coordinates.specs.Coordinates.{after, coordinateOf}
 use Rattle.group.specs.Levels.{level}
+use Rattle.group.proofs.Levels.{level-next}
 use Rattle.sensing.specs.Sense.{standsAbove, insert, sorted, sensed}
 use Rattle.push_up.proofs.Minimal.{Each}
 use Rattle.sensing.proofs.Sensed.{Stands, stands-above, stands-below, Sorted, each-count, sensed-sorted, sensed-is-order}
@@ -27,10 +28,6 @@ use Rattle.window.specs.Steps.{standsAfter}
 -- cell x is below cell d in number, and stands below it too
 unfoldable pub under : List ℕ → ℕ → ℕ → Bool
 under ls d x = ltb x d && not (standsAbove (level ls x) (level ls d))
-
-level-next : (ls : List ℕ) (c : ℕ) → level ls (suc c) ≡ getD ls c 0
-unfolding level
-level-next ls c = let e : suc c - 1 ≡ c = omega arith in rw e
 
 -- the levels of the two tell
 under-levels : (ls : List ℕ) (i j : ℕ) → j < i → tally (under ls (suc i) (suc j)) ≡ standsAfter (getD ls j 0) (getD ls i 0)
