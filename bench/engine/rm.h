@@ -40,8 +40,8 @@ uint32_t rm_words(size_t n);
  *
  * The number of a window tells the order of its levels; it is from 0 to width! - 1, where width! is
  * 1 * 2 * .. * width. With its cells numbered anew from 1, it is the sum of c(i) times i factorial
- * for i from 1 to width - 1, where c(i) counts the cells before cell i + 1 of the window that have a
- * lower level. Of two cells with equal levels, the one that comes first in the window thus counts as
+ * for i from 1 to width - 1, where c(i) counts the cells before cell i + 1 of the window whose level is
+ * not higher. Of two cells with equal levels, the one that comes later in the window thus counts as
  * the higher.
  *
  * Where 0 is returned, the numbers of the windows stand at the start of numbers, in the order of the
@@ -53,9 +53,9 @@ uint32_t rm_words(size_t n);
  * 13 comes before 15. 128 places are always enough for either list.
  *
  * For example, levels 5 9 5 2, width 3 and step 1 give four windows:
- *   cells 1 2 3, levels 5 9 5: c(1) = 1, c(2) = 0, number 1 * 1 + 0 * 2 = 1
+ *   cells 1 2 3, levels 5 9 5: c(1) = 1, c(2) = 1, number 1 * 1 + 1 * 2 = 3
  *   cells 2 3 4, levels 9 5 2: c(1) = 0, c(2) = 0, number 0
- *   cells 3 4 1, levels 5 2 5: c(1) = 0, c(2) = 1, number 2
+ *   cells 3 4 1, levels 5 2 5: c(1) = 0, c(2) = 2, number 4
  *   cells 4 1 2, levels 2 5 9: c(1) = 1, c(2) = 2, number 5
  *
  * A window takes width * (width - 1) / 2 comparisons of levels, at most 66; besides, each level of

@@ -28,8 +28,8 @@ static void show(size_t step, size_t places)
 
 int main(void)
 {
-    show(1, CELLS); /* 1 0 2 5 */
-    show(2, CELLS); /* 1 2 */
+    show(1, CELLS); /* 3 0 4 5 */
+    show(2, CELLS); /* 3 4 */
     show(3, CELLS); /* 13: 3 does not divide 4 */
     show(1, 3);     /* 15: four windows, three places */
     return EXIT_SUCCESS;

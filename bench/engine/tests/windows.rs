@@ -159,10 +159,10 @@ fn worked_by_hand() {
     let levels = [5, 9, 5, 2];
     let left = same(&levels, 3, 1, &(vec![7; 6], vec![8; 5]));
     assert_eq!(left.answer, Ok(4));
-    assert_eq!(left.numbers, [1, 0, 2, 5, 7, 7]);
+    assert_eq!(left.numbers, [3, 0, 4, 5, 7, 7]);
     assert_eq!(left.scratch, [5, 9, 5, 2, 8]);
     let left = same(&levels, 3, 2, &(vec![7; 2], vec![8; 4]));
-    assert_eq!((left.answer, left.numbers), (Ok(2), vec![1, 2]));
+    assert_eq!((left.answer, left.numbers), (Ok(2), vec![3, 4]));
     let left = same(&levels, 3, 3, &(vec![], vec![]));
     assert_eq!(left.answer, Err(13));
     let left = same(&levels, 3, 1, &(vec![7; 3], vec![8; 4]));

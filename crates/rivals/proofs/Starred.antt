@@ -1,4 +1,4 @@
--- Document 01's starred cases hold: one statement over the whole table.
+-- The starred cases hold: one statement over the whole table.
 -- Assumes nothing.
 use mathlib.Core.Path.{refl}
 use Rattle.order.specs.Refusals as refusals
@@ -18,8 +18,9 @@ use Rattle.sensing.specs.Sense.{standsAbove, insert, sorted, sensed}
 use Rattle.push_up.specs.WriteAnswer.{raised, fits, pushed, writeOf}
 use Rattle.sensing.specs.Sense.{senseOf}
 use Rattle.engine.specs.ReadStore.{readOf, storeOf}
+use Rattle.engine.specs.Scrub.{scrubOf}
 use Rattle.rivals.specs.Starred.{EachRight, starred}
 
 pub starred-hold : EachRight starred
-unfolding refusals.answer refusals.numberOf eachOnce isOrder allZero isOrderOf isListing placeFrom placeOf cellNumbers orderRecord coordinateOf coordinatesTo orderFrom coordinatesOf coordinatesOfOrder distanceOf displacement displacements largerOf largest cost displacementsOf costOf joined select same indexOf vectorsFrom weight leaves vectors words K wordAt wordNumber isCodeword firstBelow correction symbolOf wordOf codewordOf readingAt decodeOf level put atMost allAtMost isRow singles top floorOver lift raise pushOf rankPushes pushes pulsesIn raised fits pushed writeOf standsAbove insert sorted sensed senseOf readOf storeOf
-starred-hold = (refl, (refl, (refl, (refl, (refl, (refl, (refl, (refl, (refl, (refl, (refl, (refl, (refl, (refl, (refl, (refl, (refl, (refl, (refl, (refl, (refl, (refl, (refl, (refl, (refl, (refl, (refl, (refl, tt))))))))))))))))))))))))))))
+unfolding refusals.answer refusals.numberOf eachOnce isOrder allZero isOrderOf isListing placeFrom placeOf cellNumbers orderRecord coordinateOf coordinatesTo orderFrom coordinatesOf coordinatesOfOrder distanceOf displacement displacements largerOf largest cost displacementsOf costOf joined select same indexOf vectorsFrom weight leaves vectors words K wordAt wordNumber isCodeword firstBelow correction symbolOf wordOf codewordOf readingAt decodeOf level put atMost allAtMost isRow singles top floorOver lift raise pushOf rankPushes pushes pulsesIn raised fits pushed writeOf standsAbove insert sorted sensed senseOf readOf storeOf scrubOf
+starred-hold = (refl, (refl, (refl, (refl, (refl, (refl, (refl, (refl, (refl, (refl, (refl, (refl, (refl, (refl, (refl, (refl, (refl, (refl, (refl, (refl, (refl, (refl, (refl, (refl, (refl, (refl, (refl, (refl, (refl, tt)))))))))))))))))))))))))))))

@@ -1,6 +1,7 @@
--- Document 01, "Bench orders": the starred cases as one table. A case is a list of facts; what a fact claims is `IsRight`.
+-- Document 01, "Bench orders": the starred cases as one table, case 9 as document 02, request (c), has it. A case is a list of facts; what a
+-- fact claims is `IsRight`.
 --
---   Fact                a call with its arguments, an order as the list of its cells, and the whole answer; what document 01 does not print
+--   Fact                a call with its arguments, an order as the list of its cells, and the whole answer; what the documents do not print
 --                       is reckoned
 --   IsRight f           the definition that the call's contract cites gives that answer
 --   EachRight fs        every one of these facts is right
@@ -14,16 +15,18 @@
 --   push c start reach  the push of a cell from one level to another
 --   program g k ps      what the answer to a write or a store carries: the group after it, k pulses, how many pushes, and the pushes in
 --                       eleven places
+--   step g s v k ps     what the answer to a scrub carries: the group after it, the symbol, the verdict, pulses and pushes as above
 --   done a              the answer with number 0 that carries a
 --   refused k z         the answer with number k and the zeros z beside it
+--   clean s             the answer to a reading of symbol s that found its codeword
 --   mended s k          the answer to a reading of symbol s, put right at place k
 --   lost                the answer to a reading refused as lost: symbol 0, no verdict
---   starred             the table: the facts of the cases 1 to 9, in their order, each case under its sentence in document 01
+--   starred             the table: the facts of the cases 1 to 9, in their order, each case under its sentence in the documents
 use Prim.Native.Nat.{ℕ, _-_}
 use mathlib.Core.Path.{_≡_}
 use mathlib.Core.Bool.{Bool, true, false}
 use mathlib.Core.List.{List, [], _∷_, _++_, map}
-use mathlib.Core.Option.{none, some}
+use mathlib.Core.Option.{Option, none, some}
 use lib.ListN.{length, replicate}
 use lib.IntN.{ℤ, pos, negsuc}
 use Rattle.order.specs.Refusals.{Told}
@@ -33,13 +36,15 @@ use Rattle.coordinates.specs.declared.Coordinates.{Coordinates}
 use Rattle.coordinates.specs.Conversion.{coordinatesOfOrder}
 use Rattle.distance.specs.Distance.{distanceOf}
 use Rattle.cost.specs.Cost.{displacementsOf, costOf}
-use Rattle.code.specs.declared.Verdict.the-variants.{PutRight}
+use Rattle.code.specs.declared.Verdict.{Verdict}
+use Rattle.code.specs.declared.Verdict.the-variants.{Clean, PutRight}
 use Rattle.code.specs.Symbols.{Reading, codewordOf, decodeOf}
 use Rattle.group.specs.declared.Group.{Group}
 use Rattle.push_up.specs.declared.Push.{Push}
 use Rattle.push_up.specs.WriteAnswer.{Program, writeOf}
 use Rattle.sensing.specs.Sense.{senseOf}
 use Rattle.engine.specs.ReadStore.{readOf, storeOf}
+use Rattle.engine.specs.Scrub.{Step, scrubOf}
 
 -- ---- records and answers
 
@@ -70,11 +75,17 @@ push c start reach = record { cell = cell c; start = start; reach = reach }
 abbrev pub program : Group → ℕ → List Push → Program
 program g k ps = record { group = g; pulses = k; count = length ps; pushes = places 11 (push 0 0 0) ps }
 
+abbrev pub step : Group → ℕ → Option Verdict → ℕ → List Push → Step
+step g s v k ps = record { group = g; symbol = s; verdict = v; pulses = k; count = length ps; pushes = places 11 (push 0 0 0) ps }
+
 abbrev pub done : {A : Type 0} → A → Told A
 done a = record { number = 0; value = a }
 
 abbrev pub refused : {A : Type 0} → ℕ → A → Told A
 refused k z = record { number = k; value = z }
+
+abbrev pub clean : ℕ → Told Reading
+clean s = done (record { symbol = s; verdict = some Clean })
 
 abbrev pub mended : ℕ → ℕ → Told Reading
 mended s k = done (record { symbol = s; verdict = some (PutRight (record { 0 = k })) })
@@ -89,6 +100,7 @@ pub data Fact : Type 0 where
   storeGives : Group → ℕ → Told Program → Fact
   senseGives : Group → Told Order → Fact
   readGives : Group → Told Reading → Fact
+  scrubGives : Group → Told Step → Fact
   decodeGives : List ℕ → Told Reading → Fact
   codewordGives : ℕ → ℕ → Told Order → Fact
   coordinatesGive : List ℕ → Told Coordinates → Fact
@@ -101,6 +113,7 @@ IsRight (writeGives g xs t) = writeOf g (order xs) ≡ t
 IsRight (storeGives g s t) = storeOf g s ≡ t
 IsRight (senseGives g t) = senseOf g ≡ t
 IsRight (readGives g t) = readOf g ≡ t
+IsRight (scrubGives g t) = scrubOf g ≡ t
 IsRight (decodeGives xs t) = decodeOf (order xs) ≡ t
 IsRight (codewordGives n s t) = codewordOf n s ≡ t
 IsRight (coordinatesGive xs t) = coordinatesOfOrder (order xs) ≡ t
@@ -150,7 +163,9 @@ starred =
     ∷ storeGives (group false (0 ∷ 0 ∷ 0 ∷ [])) 1 (done (program (group true (0 ∷ 1 ∷ 2 ∷ [])) 3 (push 2 0 1 ∷ push 3 0 2 ∷ [])))
     ∷ storeGives (capped false (0 ∷ 0 ∷ 0 ∷ []) (4095 ∷ 4095 ∷ 2 ∷ [])) 1 (done (program (capped true (0 ∷ 1 ∷ 2 ∷ []) (4095 ∷ 4095 ∷ 2 ∷ [])) 3 (push 2 0 1 ∷ push 3 0 2 ∷ [])))
     ∷ storeGives (capped false (0 ∷ 0 ∷ 0 ∷ []) (4095 ∷ 4095 ∷ 1 ∷ [])) 1 (refused 8 (program (capped false (0 ∷ 0 ∷ 0 ∷ []) (4095 ∷ 4095 ∷ 1 ∷ [])) 0 []))
-    -- 9. "Levels (0,1,1), written: reads [2,3,1], symbol 1, put right at place 1."
-    ∷ senseGives (group true (0 ∷ 1 ∷ 1 ∷ [])) (done (order (2 ∷ 3 ∷ 1 ∷ [])))
-    ∷ readGives (group true (0 ∷ 1 ∷ 1 ∷ [])) (mended 1 1)
+    -- 9. "Levels (0,1,1), written"; document 02, request (c): "Case 9 of document 01 then reads [3,2,1], clean." "Pulses of a scrub in that
+    -- case stay 1."
+    ∷ senseGives (group true (0 ∷ 1 ∷ 1 ∷ [])) (done (order (3 ∷ 2 ∷ 1 ∷ [])))
+    ∷ readGives (group true (0 ∷ 1 ∷ 1 ∷ [])) (clean 1)
+    ∷ scrubGives (group true (0 ∷ 1 ∷ 1 ∷ [])) (done (step (group true (0 ∷ 1 ∷ 2 ∷ [])) 1 (some Clean) 1 (push 3 1 2 ∷ [])))
     ∷ []

@@ -1,3 +1,4 @@
 pub mod Sensed
 pub mod Settling
 pub mod Written
+pub mod LevelCells

@@ -61,8 +61,8 @@ highest = (refl, refl)
 abbrev tied : List ℕ
 tied = 2 ∷ 1 ∷ 1 ∷ 2 ∷ []
 
--- they go by their numbers in the window: by those in the ring the last two windows, which wrap round, would have the numbers 5 and 1
-level-cells : windowNumbers tied 3 1 ≡ 0 ∷ 4 ∷ 3 ∷ 0 ∷ []
+-- they go by their numbers in the window: by those in the ring the last two windows, which wrap round, would have the numbers 3 and 0
+level-cells : windowNumbers tied 3 1 ≡ 2 ∷ 5 ∷ 5 ∷ 1 ∷ []
 unfolding windowNumbers windowNumber orderNumber windowAt factorialSum factorial sensed sorted insert standsAbove level coordinateOf
 level-cells = refl
 
@@ -74,7 +74,7 @@ numbers = 7 ∷ 7 ∷ 7 ∷ 7 ∷ 7 ∷ []
 
 filled :
     (windowsOf (levelChecks tied) tied 3 1 numbers numbers ≡ record { number = 0; value = 4 })
-    × (numbersAfter (levelChecks tied) tied 3 1 numbers numbers ≡ 0 ∷ 4 ∷ 3 ∷ 0 ∷ 7 ∷ [])
+    × (numbersAfter (levelChecks tied) tied 3 1 numbers numbers ≡ 2 ∷ 5 ∷ 5 ∷ 1 ∷ 7 ∷ [])
     × (scratchAfter (levelChecks tied) tied 3 1 numbers numbers ≡ 2 ∷ 1 ∷ 1 ∷ 2 ∷ 7 ∷ [])
 unfolding windowsOf numbersAfter scratchAfter scratchLevels allAtMost answer numberOf windowNumbers windowNumber orderNumber windowAt factorialSum factorial sensed sorted insert standsAbove level coordinateOf
 filled = (refl, refl, refl)

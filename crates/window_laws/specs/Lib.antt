@@ -1,3 +1,4 @@
 pub mod Turn
 pub mod Numbered
 pub mod Compared
+pub mod LevelCells
