@@ -1,6 +1,6 @@
 // Runs `rmcalls` on each file of data/, and writes the file's name before its text: every refusal that the program can give, leftover bytes, no
 // bytes, 4,096 (one piece of a run, and nothing after it), 8,205 (two, a record and leftover bytes), and more than 65,536. The expected text is not
-// the engine's own: scripts/reference reckons it by document 01's definitions.
+// the engine's own: scripts/reference reckons it by the documents' definitions.
 use console::Poured;
 use libc::STDOUT_FILENO;
 

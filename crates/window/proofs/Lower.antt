@@ -18,8 +18,9 @@ use Rattle.coordinates.specs.Coordinates.{after, coordinateOf}
 use Rattle.group.specs.Levels.{level}
 use Rattle.group.proofs.Levels.{level-next}
 use Rattle.sensing.specs.Sense.{standsAbove, insert, sorted, sensed}
+use Rattle.sensing.specs.LevelCells.{Stands}
 use Rattle.push_up.proofs.Minimal.{Each}
-use Rattle.sensing.proofs.Sensed.{Stands, stands-above, stands-below, Sorted, each-count, sensed-sorted, sensed-is-order}
+use Rattle.sensing.proofs.Sensed.{stands-above, stands-below, Sorted, each-count, sensed-sorted, sensed-is-order}
 use Rattle.window.specs.Ring.{windowOrder}
 use Rattle.window.specs.Steps.{standsAfter}
 

@@ -1,6 +1,7 @@
 // The numbers of the windows along a run (document 02, request (a); local rank modulation, SD 004). Each public function takes anything; equations
 // with the definitions of specs/ fix its answer and both of the lists that it is lent. Proved besides, in `window_laws`: a window's number is below
-// the factorial of its width, numbers and orders of a width determine each other, and a ring turned by a step has its numbers turned by one.
+// the factorial of its width, numbers and orders of a width determine each other, level cells go by their numbers in the window, and a ring turned by
+// a step has its numbers turned by one.
 use cell_run::Run;
 use order::Outcome;
 use order::Refusal;
@@ -204,9 +205,6 @@ fn two_coordinates(window: &[u16], i: usize) -> TwoCoordinates
 fn stands_after(level: u16, later: u16) -> u32
     ensures { λ r. ⌜ r ≡ standsAfter level later ⌝ }
 {
-    if sensing::stands_above(level, later) {
-        0
-    } else {
-        1
-    }
+    let above = sensing::stands_above(level, later);
+    if above { 0 } else { 1 }
 }

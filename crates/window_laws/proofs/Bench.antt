@@ -12,11 +12,13 @@ use Rattle.coordinates.specs.Coordinates.{coordinateOf}
 use Rattle.group.specs.Levels.{level, put}
 use Rattle.group.specs.Record.{allAtMost, isRow}
 use Rattle.sensing.specs.Sense.{standsAbove, insert, sorted, sensed}
+use Rattle.sensing.specs.LevelCells.{formerlyAbove, formerOrder}
 use Rattle.window.specs.Ring.{factorial, factorialSum, orderNumber, windowNumber, windowAt, windowNumbers}
 use Rattle.cell_run.specs.declared.Run.{Run}
 use Rattle.cell_run.specs.Run.{runChecks, levelChecks, openRunOf, raiseCellOf}
 use Rattle.window.specs.Calls.{ring, scratchLevels, windowsOf, numbersAfter, scratchAfter}
 use Rattle.window_laws.specs.Turn.{turned}
+use Rattle.window_laws.specs.LevelCells.{formerNumber, formerNumbers}
 use Rattle.window.proofs.Summing.{coordinateIn}
 
 -- ---- the paper's example
@@ -65,6 +67,11 @@ tied = 2 ∷ 1 ∷ 1 ∷ 2 ∷ []
 level-cells : windowNumbers tied 3 1 ≡ 2 ∷ 5 ∷ 5 ∷ 1 ∷ []
 unfolding windowNumbers windowNumber orderNumber windowAt factorialSum factorial sensed sorted insert standsAbove level coordinateOf
 level-cells = refl
+
+-- under the former rule
+former-level-cells : formerNumbers tied 3 1 ≡ 0 ∷ 4 ∷ 3 ∷ 0 ∷ []
+unfolding formerNumbers formerNumber formerOrder formerlyAbove orderNumber windowAt factorialSum factorial sorted insert level coordinateOf
+former-level-cells = refl
 
 -- ---- whole calls
 

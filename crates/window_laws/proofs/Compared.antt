@@ -11,8 +11,8 @@ use Rattle.group.specs.Levels.{level}
 use Rattle.group.proofs.Levels.{level-next}
 use Rattle.push_up.proofs.Orders.{Falling, falling-shows}
 use Rattle.sensing.specs.Sense.{sensed}
-use Rattle.sensing.specs.LevelCells.{Different}
-use Rattle.sensing.proofs.Sensed.{sensed-is-order, Stands, sensed-stands, sensed-back}
+use Rattle.sensing.specs.LevelCells.{Stands, Different}
+use Rattle.sensing.proofs.Sensed.{sensed-is-order, sensed-stands, sensed-back}
 use Rattle.sensing.proofs.LevelCells.{rank-stands}
 use Rattle.window.specs.Ring.{windowOrder, windowNumber}
 use Rattle.window_laws.specs.Compared.{SameComparisons}

@@ -60,7 +60,7 @@ module _ (ring : List ℕ) (width p : ℕ) (start : p ≤ length ring) where
       = add-mod-mod p (c - 1 + (n - p)) n ∙ ap (λ (x : ℕ). x % n) f ∙ add-mod-left n (c - 1) ∙ mod-eq-of-lt (omega (arith, w .first, w .last)) in
       level-next (windowAt ring width p) i ∙ window-at ring width p i (w .inside) ∙ ap (λ (x : ℕ). getD ring x 0) back
 
-  -- of two of its cells the first has the higher rank exactly where its level is higher, or equal and its new number greater
+  -- cell a comes before cell b in the window's order exactly where its level is higher, or equal and its new number greater
   pub window-stands : (a b : ℕ) → InWindow ring width p a → InWindow ring width p b
       → (placeOf (windowOrder (windowAt ring width p)) (newNumber ring p a) < placeOf (windowOrder (windowAt ring width p)) (newNumber ring p b))
       ↔ ((level ring b < level ring a) ⊎ ((level ring b ≡ level ring a) × (newNumber ring p b < newNumber ring p a)))
@@ -89,28 +89,33 @@ places-apart n a d p l e =
           omega (arith, back, same)
     ]
 
-module _ (ring : List ℕ) (width : ℕ) (inside : width ≤ length ring) (apart : Different (length ring) ring) where
-  window-apart : (p : ℕ) → Different width (windowAt ring width p)
-  window-apart p i j h l e =
-      let n = length ring in
-      let a = (p + i) % n in
-      let b = (p + j) % n in
-      let la : a < n = mod-lt (p + i) (omega arith) in
-      let lb : b < n = mod-lt (p + j) (omega arith) in
-      let same : getD ring a 0 ≡ getD ring b 0 = sym (window-at ring width p i (omega arith)) ∙ e ∙ window-at ring width p j l in
-      let g : p + i + (j - i) ≡ p + j = omega arith in
-      elim (decLt a b) [
-        | yes q ↦ apart a b q lb same
-        | no q ↦
-            elim (decLt b a) [
-              | yes r ↦ apart b a r la (sym same)
-              | no r ↦ places-apart n (p + i) (j - i) (omega arith) (omega arith) (ap (λ (x : ℕ). x % n) g ∙ omega arith)
-            ]
-      ]
+-- where no two cells of the ring are level, no two of a window are
+window-apart : (ring : List ℕ) (width p : ℕ) → width ≤ length ring → Different (length ring) ring → Different width (windowAt ring width p)
+window-apart ring width p inside apart i j h l e =
+    let n = length ring in
+    let a = (p + i) % n in
+    let b = (p + j) % n in
+    let la : a < n = mod-lt (p + i) (omega arith) in
+    let lb : b < n = mod-lt (p + j) (omega arith) in
+    let same : getD ring a 0 ≡ getD ring b 0 = sym (window-at ring width p i (omega arith)) ∙ e ∙ window-at ring width p j l in
+    let g : p + i + (j - i) ≡ p + j = omega arith in
+    elim (decLt a b) [
+      | yes q ↦ apart a b q lb same
+      | no q ↦
+          elim (decLt b a) [
+            | yes r ↦ apart b a r la (sym same)
+            | no r ↦ places-apart n (p + i) (j - i) (omega arith) (omega arith) (ap (λ (x : ℕ). x % n) g ∙ omega arith)
+          ]
+    ]
 
-  -- where no two cells of the ring are level, its numbers are those of the former rule
-  pub former-numbers : (step : ℕ) → formerNumbers ring width step ≡ windowNumbers ring width step
+module _ (ring : List ℕ) (width step : ℕ) where
+  -- where no two cells of a window are level, the numbers are those of the former rule
+  pub former-numbers : ((k : ℕ) → k < length ring / step → Different width (windowAt ring width (k * step)))
+      → formerNumbers ring width step ≡ windowNumbers ring width step
   unfolding formerNumbers windowNumbers
-  former-numbers step =
+  former-numbers apart =
       tabulate-ext (length ring / step) (λ k. formerNumber (windowAt ring width (k * step))) (numberAt ring width step)
-      (λ k l. window-former ring width (k * step) (window-apart (k * step)))
+      (λ k l. window-former ring width (k * step) (apart k l))
+
+  pub former-ring : width ≤ length ring → Different (length ring) ring → formerNumbers ring width step ≡ windowNumbers ring width step
+  former-ring inside apart = former-numbers (λ k l. window-apart ring width (k * step) inside apart)

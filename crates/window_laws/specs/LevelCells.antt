@@ -1,7 +1,7 @@
 -- Document 02, request (c): how the cells of a ring stand in its windows, and the numbers that windows had by document 01's rule for level cells.
 --
 --   newNumber ring p c               the number of cell c of the ring in a window that starts with cell p + 1, whose cells are numbered anew
---                                    from 1 in ring order
+--                                    from 1 in ring order; p is at most the ring's length
 --   InWindow ring width p c          c is a cell of the ring, and one of the window's
 --   formerNumber ls                  the number of a window with the levels ls, its order being the one that the former rule gives
 --   formerNumbers ring width step    these numbers, of the windows that start with cells 1, 1 + step and so on, once round the ring
