@@ -4,7 +4,7 @@
 use Prim.Native.Nat.{ℕ, _+_, _-_, _*_, _/_, _%_, _≤_, _<_}
 use mathlib.Core.Path.{_≡_, sym, ap, ap₂, _∙_}
 use mathlib.Core.Bool.{true}
-use mathlib.Core.Logic.{_↔_, _⊎_}
+use mathlib.Core.Logic.{_↔_}
 use mathlib.Core.List.{List}
 use native.Mathlib.Decide.{decLt}
 use native.Mathlib.Nat.{mod-lt, mod-eq-of-lt, add-mod-mod, add-mod-left}
@@ -20,7 +20,7 @@ use Rattle.sensing.proofs.Sensed.{sensed-back}
 use Rattle.sensing.proofs.LevelCells.{rank-stands, former-order}
 use Rattle.window.specs.Ring.{orderNumber, windowOrder, windowNumber, levelRound, windowAt, numberAt, windowNumbers}
 use Rattle.window.proofs.Numbering.{window-length}
-use Rattle.window_laws.specs.LevelCells.{newNumber, InWindow, formerNumber, formerNumbers}
+use Rattle.window_laws.specs.LevelCells.{newNumber, InWindow, StandsInWindow, formerNumber, formerNumbers}
 
 -- ---- a window
 
@@ -60,10 +60,10 @@ module _ (ring : List ℕ) (width p : ℕ) (start : p ≤ length ring) where
       = add-mod-mod p (c - 1 + (n - p)) n ∙ ap (λ (x : ℕ). x % n) f ∙ add-mod-left n (c - 1) ∙ mod-eq-of-lt (omega (arith, w .first, w .last)) in
       level-next (windowAt ring width p) i ∙ window-at ring width p i (w .inside) ∙ ap (λ (x : ℕ). getD ring x 0) back
 
-  -- cell a comes before cell b in the window's order exactly where its level is higher, or equal and its new number greater
+  -- cell a comes before cell b in the window's order exactly where it stands above it: by level, and among equal levels by new number
   pub window-stands : (a b : ℕ) → InWindow ring width p a → InWindow ring width p b
       → (placeOf (windowOrder (windowAt ring width p)) (newNumber ring p a) < placeOf (windowOrder (windowAt ring width p)) (newNumber ring p b))
-      ↔ ((level ring b < level ring a) ⊎ ((level ring b ≡ level ring a) × (newNumber ring p b < newNumber ring p a)))
+      ↔ StandsInWindow ring p a b
   unfolding newNumber
   window-stands a b v w =
       let window = windowAt ring width p in
