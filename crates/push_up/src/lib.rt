@@ -1,8 +1,8 @@
 // Minimal push-up (document 01, "The plain machine"; document 02, request (b)): its definitions, the answer of a write with its push program, and their
 // laws. Proved of the push-up, over any gap and any ranks that list no cell twice, each with a level: it lowers no cell, shows its target, and is at or
-// below every set of levels that does both (proofs/Minimal); its program, applied push by push to the old levels, gives the new ones, each push starts from where its cell
-// then stands, no cell is pushed twice, and the pulses are the sum of all rises (proofs/Programs); after a write a group is still a group
-// (proofs/Writes). The functions here hold levels to caps, and make the answer of a call that writes nothing.
+// below every set of levels that does both (proofs/Minimal); its program, applied push by push to the old levels, gives the new ones, each push starts
+// from where its cell then stands, no cell is pushed twice, and the pulses are the sum of all rises (proofs/Programs); after a write a group is still a
+// group (proofs/Writes). The functions here hold levels to caps, and make the answer of a call that writes nothing.
 use group::Group;
 use order::Cell;
 use order::Outcome;
