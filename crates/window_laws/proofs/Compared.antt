@@ -10,10 +10,10 @@ use Rattle.order.proofs.Cells.{true-order, order-range}
 use Rattle.group.specs.Levels.{level}
 use Rattle.group.proofs.Levels.{level-next}
 use Rattle.push_up.proofs.Orders.{Falling, falling-shows}
-use Rattle.sensing.specs.Sense.{sensed}
+use Rattle.sensing.specs.Sense.{standsAbove, sensed}
 use Rattle.sensing.specs.LevelCells.{Stands, Different}
-use Rattle.sensing.proofs.Sensed.{sensed-is-order, sensed-stands, sensed-back}
-use Rattle.sensing.proofs.LevelCells.{rank-stands}
+use Rattle.sensing.proofs.Sensed.{sensed-is-order, sensed-back}
+use Rattle.sensing.proofs.LevelCells.{rank-stands, levels-fall, present-by-level}
 use Rattle.window.specs.Ring.{windowOrder, windowNumber}
 use Rattle.window_laws.specs.Compared.{SameComparisons}
 use Rattle.window_laws.proofs.Numbers.{number-by-order}
@@ -21,29 +21,18 @@ use Rattle.window_laws.proofs.Numbers.{number-by-order}
 cell-range : (ls : List ℕ) (k : ℕ) → k < length ls → (1 ≤ getD (windowOrder ls) k 0) × (getD (windowOrder ls) k 0 ≤ length ls)
 cell-range ls = order-range (length ls) (windowOrder ls) (sensed-is-order (length ls) ls)
 
--- levels fall along the order: level cells, which there are none of, would be the other case
-falls : (ls : List ℕ) → Different (length ls) ls → (i j : ℕ) → i < j → j < length ls
-    → level ls (getD (windowOrder ls) j 0) < level ls (getD (windowOrder ls) i 0)
-unfolding level
-falls ls d i j h l =
-    let higher = getD (windowOrder ls) i 0 in
-    let lower = getD (windowOrder ls) j 0 in
-    let p = cell-range ls i (omega arith) in
-    let q = cell-range ls j l in
-    ⊎-elim (λ t. t) (λ t. absurd (d (lower - 1) (higher - 1) (omega arith) (omega arith) (t .0))) (sensed-stands (length ls) ls i j h l)
-
 -- ---- from comparisons to the order
 
 module _ (ls ms : List ℕ) (n : length ls ≡ length ms) (d : Different (length ls) ls) (a : SameComparisons ls ms) where
   -- the other window's levels fall along it too
   alike-falling : Falling 1 (windowOrder ls) ms
-  unfolding Falling level
+  unfolding Falling level sensed
   alike-falling i l =
       let xs = windowOrder ls in
       let m : suc i < length ls = omega (arith, sensed-is-order (length ls) ls .size) in
       let p = cell-range ls i (omega arith) in
       let q = cell-range ls (suc i) m in
-      omega (arith, a (getD xs (suc i) 0 - 1) (getD xs i 0 - 1) (omega arith) (omega arith) (falls ls d i (suc i) (omega arith) m))
+      omega (arith, a (getD xs (suc i) 0 - 1) (getD xs i 0 - 1) (omega arith) (omega arith) (levels-fall standsAbove present-by-level ls (length ls) d i (suc i) (omega arith) m))
 
   alike-order : windowOrder ls ≡ windowOrder ms
   alike-order =
