@@ -31,11 +31,11 @@ use Rattle.code.specs.Words.{K, symbolOf}
 use Rattle.code.specs.Symbols.{wordOf, verdictAt, readingAt, decodeOf}
 use Rattle.code.proofs.Symbols.{symbol-reads}
 use Rattle.group.specs.declared.Group.{Group}
-use Rattle.group.specs.Record.{groupChecks}
+use Rattle.group.specs.Record.{groupChecks, IsGroup}
 use Rattle.push_up.specs.WriteAnswer.{Program, pushChecks, pushed, unpushed}
 use Rattle.group.proofs.Checks.{checked-size}
 use Rattle.sensing.proofs.Sensed.{sensed-order}
-use Rattle.group.proofs.Groups.{IsGroup, told-accepted}
+use Rattle.group.proofs.Groups.{told-accepted}
 use Rattle.push_up.proofs.Writes.{group-pushed, push-group}
 use Rattle.sensing.proofs.Written.{raised-sensed}
 use Rattle.engine.specs.ReadStore.{sensedOrder, placeRead, readChecks, readOf, storeOf, alikeOf}

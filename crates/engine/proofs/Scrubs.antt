@@ -35,12 +35,11 @@ use Rattle.code.proofs.Laws.{number-below}
 use Rattle.code.proofs.Codewords.{codeword-word, number-of-codeword}
 use Rattle.code.proofs.Reading.{readingTold, decode-part, corrected-word}
 use Rattle.group.specs.declared.Group.{Group}
-use Rattle.group.specs.Record.{groupChecks}
+use Rattle.group.specs.Record.{groupChecks, IsGroup}
 use Rattle.push_up.specs.WriteAnswer.{Program, pushed, unpushed, writeOf}
 use Rattle.group.proofs.Checks.{checked-size}
 use Rattle.push_up.proofs.Writes.{push-group, push-again}
 use Rattle.sensing.proofs.Sensed.{sensed-order}
-use Rattle.group.proofs.Groups.{IsGroup}
 use Rattle.engine.specs.declared.ReadAnswer.{ReadAnswer}
 use Rattle.engine.specs.declared.ReadAnswer.the-variants as read
 use Rattle.engine.specs.ReadStore.{sensedOrder, placeRead, markedChecks, readChecks, readingOf, toldRead, readOf, storeOf}

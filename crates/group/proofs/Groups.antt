@@ -15,17 +15,11 @@ use Rattle.order.specs.Refusals.{numberOf, ifDone, answer, isSize}
 use Rattle.order.proofs.Refusals.{check-held, size-true, all-held}
 use Rattle.group.specs.declared.Group.{Group}
 use Rattle.group.specs.Levels.{level, AtMost}
-use Rattle.group.specs.Record.{isRow, groupChecks, opened, noGroup, changed}
+use Rattle.group.specs.Record.{isRow, groupChecks, IsGroup, opened, noGroup, changed}
 use Rattle.group.specs.Changes.{cellChecks, openOf, leakOf, wearOf, eraseOf}
 use Rattle.group.proofs.Levels.{at-most-refl, at-most-length, put-below, leaked-below}
 use Rattle.group.proofs.LevelRows.{row-below, zeros-row, full-row}
 use Rattle.group.proofs.Checks.{rules-held, rules-hold, checked-levels}
-
--- a record that passes the checks, with rows of twelve
-pub record IsGroup (g : Group) : Type 0 where
-  pub passes : numberOf (groupChecks g) ≡ 0
-  pub levels : length (g .levels) ≡ 12
-  pub caps : length (g .caps) ≡ 12
 
 -- ---- answers
 

@@ -1,6 +1,6 @@
 -- Laws of rows: lists of levels or caps that a loop reads place by place.
 -- Assumes nothing.
-use Prim.Native.Nat.{ℕ, zero, suc, _+_, _-_, _^_, _<_, _≤_}
+use Prim.Native.Nat.{ℕ, zero, suc, _+_, _-_, _*_, _^_, _<_, _≤_}
 use mathlib.Core.Path.{_≡_, refl, sym, ap, ap₂, _∙_}
 use mathlib.Core.Bool.{Bool, true, false, _&&_, and-false, and-true, cond}
 use mathlib.Core.Logic.{⊎-elim}
@@ -16,7 +16,7 @@ use Rattle.order.proofs.Cells.{both, lt-cases}
 use Rattle.order.proofs.Numbers.{drop-up}
 use Rattle.order.proofs.Bits.{or-at-most, high-zero, gather}
 use Rattle.order.proofs.Spare.{row-at}
-use Rattle.group.specs.Levels.{AtMost, empty, more, atMost}
+use Rattle.group.specs.Levels.{AtMost, empty, more, atMost, rises}
 use Rattle.group.specs.Record.{allAtMost, isRow}
 
 -- ---- the places from i on
@@ -186,3 +186,12 @@ full-row m n =
     let clear : List ℕ = replicate (12 - n) 0 in
     rw (all-append m n m clear (le-refl m) (zeros-low m (12 - n)), drop-at full clear n (length-replicate n m))
     (zeros-low 0 (12 - n))
+
+-- levels up to 4,095 have risen by no more than that in each place
+pub rises-most : (xs ys : List ℕ) → allAtMost 4095 ys ≡ true → rises xs ys ≤ 4095 * length xs
+unfolding rises allAtMost
+rises-most [] ys h = omega arith
+rises-most (x ∷ xs) [] h = omega arith
+rises-most (x ∷ xs) (y ∷ ys) h =
+    let t = both (leb y 4095) (allAtMost 4095 ys) h in
+    omega (arith, leb-true y 4095 (t .0), rises-most xs ys (t .1))

@@ -4,6 +4,7 @@
 --   isRow m n xs        whole numbers 0 to m, and 0 in the places beyond n
 --   hasRows g           levels and caps are such rows, up to 4,095; a cap may be below the level of its cell
 --   groupChecks g       the checks of a record: 1, 2
+--   IsGroup g           the record is a group: it passes the checks, and has twelve levels and twelve caps
 --   fresh n cs          a record of n cells with these caps: levels 0, not written
 --   opened n            levels 0, caps 4,095, not written
 --   noGroup             the all-zero record
@@ -12,13 +13,14 @@
 --   programmed g ls     the record with these levels, written
 --   erased g            all levels 0, mark cleared, caps kept
 use Prim.Native.Nat.{ℕ, _-_}
+use mathlib.Core.Path.{_≡_}
 use mathlib.Core.Bool.{Bool, true, false, _&&_}
 use mathlib.Core.List.{List, [], _∷_, _++_}
 use lib.Dec.{leb}
-use lib.ListN.{drop, replicate}
+use lib.ListN.{length, drop, replicate}
 use Rattle.order.specs.declared.Refusal.{Refusal}
 use Rattle.order.specs.declared.Refusal.the-variants.{Size, NoGroup}
-use Rattle.order.specs.Refusals.{isSize}
+use Rattle.order.specs.Refusals.{numberOf, isSize}
 use Rattle.group.specs.declared.Group.{Group}
 
 unfoldable pub allAtMost : ℕ → List ℕ → Bool
@@ -33,6 +35,11 @@ hasRows g = isRow 4095 (g .n) (g .levels) && isRow 4095 (g .n) (g .caps)
 
 abbrev pub groupChecks : Group → List (Bool × Refusal)
 groupChecks g = (isSize (g .n), Size) ∷ (hasRows g, NoGroup) ∷ []
+
+pub record IsGroup (g : Group) : Type 0 where
+  pub passes : numberOf (groupChecks g) ≡ 0
+  pub levels : length (g .levels) ≡ 12
+  pub caps : length (g .caps) ≡ 12
 
 abbrev pub fresh : ℕ → List ℕ → Group
 fresh n cs = record { n = n; levels = replicate 12 0; caps = cs; written = false }

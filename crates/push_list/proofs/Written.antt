@@ -16,13 +16,12 @@ use Rattle.order.proofs.Check.{order-parts}
 use Rattle.order.proofs.Refusals.{check-held, all-held, later-decide, check-fails, told-refused}
 use Rattle.group.specs.declared.Group.{Group}
 use Rattle.push_up.specs.declared.Push.{Push}
-use Rattle.group.specs.Record.{groupChecks}
+use Rattle.group.specs.Record.{groupChecks, IsGroup}
 use Rattle.push_up.specs.PushUp.{singles, pushes, pulsesIn}
 use Rattle.push_up.specs.WriteAnswer.{Program, pushed, unpushed, writeOf}
 use Rattle.push_up.specs.PushProgram.{counted, IsPushProgram}
 use Rattle.push_up.proofs.Programs.{counted-pulses, counted-program, no-pushes}
 use Rattle.group.proofs.Checks.{checked-size}
-use Rattle.group.proofs.Groups.{IsGroup}
 use Rattle.push_up.proofs.Writes.{group-pushed}
 use Rattle.push_list.specs.LentWrite.{intoChecks, writeIntoOf, filled, listAfter}
 use Rattle.push_list.proofs.Plans.{either, filledBy, plan-list, room-written}

@@ -15,12 +15,12 @@ use Rattle.order.proofs.Cells.{order-true}
 use Rattle.order.proofs.Refusals.{all-held, check-held, check-holds, all-hold}
 use Rattle.order.proofs.Check.{order-parts}
 use Rattle.group.specs.declared.Group.{Group}
-use Rattle.group.specs.Record.{allAtMost, groupChecks}
+use Rattle.group.specs.Record.{allAtMost, groupChecks, IsGroup}
 use Rattle.group.specs.Levels.{AtMost}
 use Rattle.group.proofs.LevelRows.{row-true, row-below}
 use Rattle.group.proofs.Levels.{at-most-refl, at-most-trans, at-most-length, at-most-true, true-at-most}
 use Rattle.group.proofs.Checks.{checked-size, checked-levels, checked-caps}
-use Rattle.group.proofs.Groups.{IsGroup, told-value, told-accepted, group-with}
+use Rattle.group.proofs.Groups.{told-value, told-accepted, group-with}
 use Rattle.push_up.specs.PushUp.{singles, Shows}
 use Rattle.push_up.specs.WriteAnswer.{Program, raised, fits, pushChecks, pushed, unpushed, writeOf}
 use Rattle.push_up.proofs.Minimal.{raise-least}

@@ -16,13 +16,13 @@ use Rattle.order.specs.Refusals.{numberOf, ifDone, Told, isSize}
 use Rattle.order.proofs.Refusals.{all-hold, check-holds, told-done}
 use Rattle.group.specs.declared.Group.{Group}
 use Rattle.group.specs.Levels.{AtMost, rises}
-use Rattle.group.specs.Record.{opened, noGroup}
+use Rattle.group.specs.Record.{opened, noGroup, IsGroup}
 use Rattle.push_up.specs.PushUp.{singles}
 use Rattle.push_up.specs.WriteAnswer.{raised, fits, pushChecks, pushed}
 use Rattle.group.specs.Changes.{openOf}
 use Rattle.group.proofs.Levels.{at-most-refl, at-most-trans, sum, sum-mono, rises-up, rises-down, leaked-mono, leaked-loss}
 use Rattle.push_up.proofs.Minimal.{raise-above, raise-least}
-use Rattle.group.proofs.Groups.{IsGroup, open-group}
+use Rattle.group.proofs.Groups.{open-group}
 use Rattle.push_up.proofs.Writes.{push-holds, fits-where}
 use Rattle.plain_machine.specs.declared.Kind.{Kind}
 use Rattle.plain_machine.specs.declared.Kind.the-variants.{Write, WriteInto, Store, Scrub, Leak, Wear, Erase, Read}

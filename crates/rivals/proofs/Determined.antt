@@ -15,11 +15,11 @@ use Rattle.order.specs.Cells.{isCell}
 use Rattle.order.specs.Order.{noOrder}
 use Rattle.order.proofs.Refusals.{all-held, check-held, check-holds, check-fails, later-decide, all-hold}
 use Rattle.group.specs.declared.Group.{Group}
-use Rattle.group.specs.Record.{groupChecks}
+use Rattle.group.specs.Record.{groupChecks, IsGroup}
 use Rattle.group.specs.Changes.{openOf}
 use Rattle.group.proofs.Levels.{at-most-antisym}
 use Rattle.group.proofs.Checks.{checked-size, cell-true}
-use Rattle.group.proofs.Groups.{IsGroup, open-group}
+use Rattle.group.proofs.Groups.{open-group}
 use Rattle.engine.specs.ReadStore.{placeRead}
 use Rattle.plain_machine.specs.declared.Kind.the-variants.{Leak, Read}
 use Rattle.plain_machine.specs.declared.Call.{Call}

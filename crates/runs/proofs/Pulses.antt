@@ -3,18 +3,14 @@
 use mathlib.Core.Path.{_≡_, refl, sym, subst}
 use mathlib.Core.Logic.{inl, inr}
 use mathlib.Core.Bool.{true}
-use Prim.Native.Nat.{ℕ, _*_, _≤_}
+use Prim.Native.Nat.{_*_, _≤_}
 use native.Mathlib.Omega.{arith}
 use mathlib.Core.List.{List, [], _∷_}
-use lib.Dec.{leb}
 use lib.ListN.{length}
-use borrow.Author.Tests.{leb-true}
 use Rattle.order.specs.Refusals.{Told}
-use Rattle.order.proofs.Cells.{both}
 use Rattle.group.specs.declared.Group.{Group}
-use Rattle.group.specs.Levels.{rises}
 use Rattle.group.specs.Record.{allAtMost}
-use Rattle.group.proofs.LevelRows.{row-true}
+use Rattle.group.proofs.LevelRows.{row-true, rises-most}
 use Rattle.group.proofs.Checks.{checked-levels}
 use Rattle.plain_machine.specs.Machine.{applyOf}
 use Rattle.plain_machine.proofs.Machine.{apply-rises}
@@ -24,14 +20,6 @@ use Rattle.records.specs.declared.Request.the-variants.{Bad, Open, Apply}
 use Rattle.records.specs.Records.{Answer, requestOf, callOf, stepBy, stepOf}
 use Rattle.runs.specs.Text.{allPulses}
 use Rattle.runs.proofs.Course.{Begun, by-request, request-begun, step-begun}
-
-rises-most : (xs ys : List ℕ) → allAtMost 4095 ys ≡ true → rises xs ys ≤ 4095 * length xs
-unfolding rises allAtMost
-rises-most [] ys h = omega arith
-rises-most (x ∷ xs) [] h = omega arith
-rises-most (x ∷ xs) (y ∷ ys) h =
-    let t = both (leb y 4095) (allAtMost 4095 ys) h in
-    omega (arith, leb-true y 4095 (t .0), rises-most xs ys (t .1))
 
 begun-levels : (g : Group) → Begun g → (allAtMost 4095 (g .levels) ≡ true) × (length (g .levels) ≡ 12)
 unfolding allAtMost

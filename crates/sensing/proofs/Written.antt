@@ -14,9 +14,8 @@ use Rattle.order.proofs.Refusals.{sized-holds, told-done}
 use Rattle.order.proofs.Check.{order-parts}
 use Rattle.order.proofs.Records.{record-back}
 use Rattle.group.specs.declared.Group.{Group}
-use Rattle.group.specs.Record.{programmed}
+use Rattle.group.specs.Record.{programmed, IsGroup}
 use Rattle.group.proofs.Checks.{checked-size}
-use Rattle.group.proofs.Groups.{IsGroup}
 use Rattle.push_up.specs.WriteAnswer.{raised, pushed, writeOf}
 use Rattle.push_up.proofs.Writes.{write-accepted, write-group, raised-shows}
 use Rattle.sensing.specs.Sense.{sensed, senseOf}
