@@ -40,6 +40,7 @@ pub fn refusal(r: Refusal) -> u8 {
         Refusal::RunLimit => 13,
         Refusal::NoRaise => 14,
         Refusal::RoomShort => 15,
+        Refusal::NoPage => 16,
     }
 }
 

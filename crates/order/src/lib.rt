@@ -72,6 +72,7 @@ pub enum Refusal {
     RunLimit,
     NoRaise,
     RoomShort,
+    NoPage,
 }
 
 pub enum Outcome {
@@ -122,6 +123,7 @@ pub fn refusal_number(refusal: Refusal) -> u8
         Refusal::RunLimit => 13,
         Refusal::NoRaise => 14,
         Refusal::RoomShort => 15,
+        Refusal::NoPage => 16,
     }
 }
 
