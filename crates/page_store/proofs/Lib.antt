@@ -1,0 +1,3 @@
+pub mod Pulses
+pub mod PageStore
+pub mod Told
