@@ -1,0 +1,91 @@
+-- What pages of groups of three cells answer, about the definitions of the two calls, and the groups' own lists after some calls, in the records of the
+-- table of starred cases (rivals, specs Starred).
+-- Assumes nothing.
+use Prim.Native.Nat.{ℕ}
+use mathlib.Core.Path.{_≡_, refl}
+use mathlib.Core.Bool.{true, false}
+use mathlib.Core.List.{List, [], _∷_}
+use lib.ListN.{length}
+use Rattle.order.specs.Refusals as refusals
+use Rattle.order.specs.Order.{noOrder}
+use Rattle.coordinates.specs.Coordinates.{coordinateOf, coordinatesTo, orderFrom}
+use Rattle.decoder.specs.Decoding.{weight, leaves, isCodeword, firstBelow, correction}
+use Rattle.code.specs.Words.{joined, select, same, indexOf, vectorsFrom, vectors, words, K, wordAt, wordNumber, symbolOf}
+use Rattle.code.specs.Symbols.{wordOf, readingAt}
+use Rattle.group.specs.declared.Group.{Group}
+use Rattle.group.specs.Levels.{level, put, atMost}
+use Rattle.group.specs.Record.{allAtMost, isRow, noGroup}
+use Rattle.group.specs.Changes.{wearOf}
+use Rattle.push_up.specs.PushUp.{singles, top, floorOver, lift, raise, pushOf, rankPushes, pushes, pulsesIn}
+use Rattle.push_up.specs.WriteAnswer.{raised, fits, pushed}
+use Rattle.sensing.specs.Sense.{standsAbove, insert, sorted, sensed}
+use Rattle.engine.specs.ReadStore.{readOf, storeOf}
+use Rattle.plain_machine.specs.declared.Kind.the-variants.{Wear}
+use Rattle.plain_machine.specs.declared.Call.{Call}
+use Rattle.plain_machine.specs.Machine.{applyOf}
+use Rattle.rivals.specs.Starred.{places, cell, capped, group, done, refused}
+use Rattle.page.specs.declared.Page.{Page}
+use Rattle.page.specs.Groups.{allOf, putEach, firstRefusing}
+use Rattle.page.specs.Pages.{likeFirst, isPage, pageAnswer, numberRead, symbolRead, ReadSymbols, unread, readPageOf}
+use Rattle.page_store.specs.PageStore.{total, takes, numberStored, groupStored, pulsesStored, unstored, storePageOf}
+use Rattle.page_laws.specs.PageLists.{PageCall, onGroup, pageStore, pageRead, putGroup, stands, storeCall, pageStep, pagePulses, ownCall, afterCalls, pulsesOfCalls, callsOf}
+
+abbrev pub page : List Group → Page
+page gs = record { count = length gs; groups = places 8 noGroup gs }
+
+abbrev pub fresh : Group
+fresh = group false (0 ∷ 0 ∷ 0 ∷ [])
+
+-- cell 3 capped at 1, so that symbol 1 is refused as worn
+abbrev pub low : Group
+low = capped false (0 ∷ 0 ∷ 0 ∷ []) (4095 ∷ 4095 ∷ 1 ∷ [])
+
+-- a level above 4,095: no group
+abbrev none : Group
+none = group false (4096 ∷ 0 ∷ 0 ∷ [])
+
+-- an order that is two exchanges from every codeword
+abbrev lost : Group
+lost = group true (3 ∷ 2 ∷ 1 ∷ 4 ∷ [])
+
+abbrev both : Page
+both = page (group true (0 ∷ 1 ∷ 2 ∷ []) ∷ group true (2 ∷ 1 ∷ 0 ∷ []) ∷ [])
+
+abbrev symbols : List ℕ → ReadSymbols
+symbols ss = record { group = 0; count = length ss; symbols = places 8 0 ss }
+
+-- stored in both groups, and read from both; refused by the second, and by the first of two that refuse; a symbol that there is not, before worn in a
+-- later group; different n, no cells beside three and no cells in both; a symbol too few, and one too many
+pub pages-answer :
+    (storePageOf (page (fresh ∷ fresh ∷ [])) (1 ∷ 0 ∷ []) ≡ done (record { group = 0; page = both; pulses = 6 }))
+    × (readPageOf both ≡ done (symbols (1 ∷ 0 ∷ [])))
+    × (storePageOf (page (fresh ∷ low ∷ [])) (1 ∷ 1 ∷ []) ≡ refused 8 (unstored (page (fresh ∷ low ∷ [])) 2))
+    × (storePageOf (page (low ∷ none ∷ [])) (1 ∷ 1 ∷ []) ≡ refused 8 (unstored (page (low ∷ none ∷ [])) 1))
+    × (storePageOf (page (fresh ∷ low ∷ [])) (2 ∷ 1 ∷ []) ≡ refused 5 (unstored (page (fresh ∷ low ∷ [])) 1))
+    × (readPageOf (page (group true (0 ∷ 1 ∷ 2 ∷ []) ∷ fresh ∷ [])) ≡ refused 6 (unread 2))
+    × (readPageOf (page (group true (1 ∷ 2 ∷ 3 ∷ 4 ∷ []) ∷ lost ∷ [])) ≡ refused 7 (unread 2))
+    × (storePageOf (page (fresh ∷ lost ∷ [])) (1 ∷ 1 ∷ []) ≡ refused 16 (unstored (page (fresh ∷ lost ∷ [])) 0))
+    × (storePageOf (page (fresh ∷ noGroup ∷ [])) (1 ∷ 1 ∷ []) ≡ refused 16 (unstored (page (fresh ∷ noGroup ∷ [])) 0))
+    × (storePageOf (page (noGroup ∷ noGroup ∷ [])) (1 ∷ 1 ∷ []) ≡ refused 1 (unstored (page (noGroup ∷ noGroup ∷ [])) 1))
+    × (storePageOf (page (fresh ∷ fresh ∷ [])) (1 ∷ []) ≡ refused 16 (unstored (page (fresh ∷ fresh ∷ [])) 0))
+    × (storePageOf (page (fresh ∷ fresh ∷ [])) (1 ∷ 0 ∷ 0 ∷ []) ≡ refused 16 (unstored (page (fresh ∷ fresh ∷ [])) 0))
+unfolding refusals.answer refusals.numberOf level put atMost allAtMost isRow singles top floorOver lift raise pushOf rankPushes pushes pulsesIn raised fits pushed storeOf wordOf orderFrom K wordAt words vectors vectorsFrom joined select leaves weight standsAbove insert sorted sensed readOf readingAt correction firstBelow isCodeword symbolOf wordNumber indexOf same coordinatesTo coordinateOf total allOf putEach firstRefusing likeFirst isPage takes pageAnswer numberStored groupStored pulsesStored storePageOf numberRead symbolRead readPageOf
+pages-answer = (refl, refl, refl, refl, refl, refl, refl, refl, refl, refl, refl, refl)
+
+-- cell 3 of group 2 wears to 1; then a page store is refused as worn by group 2, one is refused 5 by group 1, a page read is blank, and one goes through
+abbrev wearing : Call
+wearing = record { kind = Wear (cell 3) 1; target = noOrder }
+
+abbrev course : List PageCall
+course = onGroup 2 wearing ∷ pageStore (1 ∷ 1 ∷ []) ∷ pageStore (2 ∷ 0 ∷ []) ∷ pageRead ∷ pageStore (1 ∷ 0 ∷ []) ∷ []
+
+abbrev two : Page
+two = page (fresh ∷ fresh ∷ [])
+
+pub lists-of-two :
+    (callsOf storePageOf 1 two course ≡ storeCall 1 ∷ [])
+    × (callsOf storePageOf 2 two course ≡ wearing ∷ storeCall 1 ∷ storeCall 0 ∷ [])
+    × (afterCalls storePageOf two course ≡ page (group true (0 ∷ 1 ∷ 2 ∷ []) ∷ capped true (2 ∷ 1 ∷ 0 ∷ []) (4095 ∷ 4095 ∷ 1 ∷ []) ∷ []))
+    × (pulsesOfCalls storePageOf two course ≡ 6)
+unfolding refusals.answer refusals.numberOf level put atMost allAtMost isRow singles top floorOver lift raise pushOf rankPushes pushes pulsesIn raised fits pushed wearOf storeOf applyOf wordOf orderFrom K wordAt words vectors vectorsFrom joined select leaves weight total allOf putEach firstRefusing likeFirst isPage takes pageAnswer numberStored groupStored pulsesStored storePageOf putGroup stands pageStep pagePulses ownCall afterCalls pulsesOfCalls callsOf
+lists-of-two = (refl, refl, refl, refl)

@@ -1,0 +1,166 @@
+-- Wrong page stores that fail the claim. Each is caught on a page of two groups of three cells, neither of them written: one in which symbol 1 is
+-- refused as worn, and a new one.
+-- Assumes nothing.
+use Prim.Native.Nat.{ℕ, zero, suc, _-_, _<_}
+use mathlib.Core.Path.{_≡_, refl, ap}
+use mathlib.Core.Bool.{true, cond}
+use mathlib.Core.List.{List, [], _∷_}
+use native.Mathlib.Omega.{arith}
+use lib.Dec.{ltb}
+use lib.ListN.{take}
+use Rattle.order.specs.Refusals as refusals
+use Rattle.order.specs.Refusals.{ifDone, numberOf}
+use Rattle.coordinates.specs.Coordinates.{orderFrom}
+use Rattle.decoder.specs.Decoding.{weight, leaves}
+use Rattle.code.specs.Words.{joined, select, vectorsFrom, vectors, words, K, wordAt}
+use Rattle.code.specs.Symbols.{wordOf}
+use Rattle.group.specs.declared.Group.{Group}
+use Rattle.group.specs.Levels.{level, put, atMost}
+use Rattle.group.specs.Record.{allAtMost, isRow, IsGroup}
+use Rattle.push_up.specs.PushUp.{singles, top, floorOver, lift, raise, pushOf, rankPushes, pushes, pulsesIn}
+use Rattle.push_up.specs.WriteAnswer.{raised, fits, pushed}
+use Rattle.engine.specs.ReadStore.{storeOf}
+use Rattle.plain_machine.specs.Machine.{applyOf}
+use Rattle.rivals.specs.Rivals.{after, pulsesOf}
+use Rattle.page.specs.declared.Page.{Page}
+use Rattle.page.specs.Groups.{allOf, putEach, firstRefusing}
+use Rattle.page.specs.Pages.{groupAt, likeFirst, isPage, pageAnswer}
+use Rattle.page_store.specs.PageStore.{total, symbolAt, takes, numberStored, groupStored, pulsesStored, unstored, storePageOf}
+use Rattle.page_laws.specs.PageLists.{PageCall, pageStore, PageStore, among, stands, HoldsGroups, pageStep, pagePulses, ownCall, afterCalls, pulsesOfCalls, callsOf, PageDemand3, MeetsPageDemand3}
+use Rattle.page_laws.proofs.Groups.{of-among}
+use Rattle.page_laws.proofs.Bench.{page, fresh, low}
+
+-- ---- pages of two groups
+
+new-group : IsGroup fresh
+unfolding numberOf isRow allAtMost
+new-group = record { passes = refl; levels = refl; caps = refl }
+
+low-group : IsGroup low
+unfolding numberOf isRow allAtMost
+low-group = record { passes = refl; levels = refl; caps = refl }
+
+of-two : (P : ℕ → Type 0) → P 1 → P 2 → (k : ℕ) → among 2 k ≡ true → P k
+of-two P a b = of-among 2 P by
+  where
+    by : (i : ℕ) → i < 2 → P (suc i)
+    by zero l = a
+    by (suc zero) l = b
+    by (suc (suc i)) l = absurd (omega arith)
+
+module _ (g h : Group) where
+  abbrev two : Page
+  two = page (g ∷ h ∷ [])
+
+  two-held : IsGroup g → IsGroup h → HoldsGroups two
+  two-held a b = record { room = omega arith; groups = of-two (λ k. IsGroup (groupAt two k)) a b }
+
+abbrev first-low : Page
+first-low = two low fresh
+
+abbrev last-low : Page
+last-low = two fresh low
+
+module _ (store : PageStore) where
+  -- one list of calls on one of these pages is enough
+  first-fails : (cs : List PageCall) → ¬ (PageDemand3 store first-low cs) → ¬ (MeetsPageDemand3 store)
+  first-fails cs fault meets = fault (meets first-low (two-held low fresh low-group new-group) cs)
+
+  last-fails : (cs : List PageCall) → ¬ (PageDemand3 store last-low cs) → ¬ (MeetsPageDemand3 store)
+  last-fails cs fault meets = fault (meets last-low (two-held fresh low new-group low-group) cs)
+
+-- ---- such page stores
+
+-- one that says worn to everything, and blames group 1
+pub quitter : PageStore
+quitter p ss = record { number = 8; value = unstored p 1 }
+
+pub quitter-refuted : ¬ (MeetsPageDemand3 quitter)
+unfolding quitter afterCalls refusals.answer numberOf level put atMost allAtMost isRow singles top floorOver lift raise pushOf rankPushes pushes pulsesIn raised fits pushed storeOf wordOf orderFrom K wordAt words vectors vectorsFrom joined select leaves weight total allOf putEach firstRefusing likeFirst isPage takes pageAnswer numberStored groupStored pulsesStored storePageOf
+quitter-refuted =
+    last-fails quitter []
+    (λ d. let e : _≡_ {A = ℕ} 8 0 = d .accepted (0 ∷ 0 ∷ []) .1 (refl, of-two (λ k. numberStored last-low (0 ∷ 0 ∷ []) k ≡ 0) refl refl) in omega arith)
+
+-- one that keeps what it stored before a group refuses
+pub half-way : PageStore
+half-way p ss =
+    let t = storePageOf p ss in
+    let k = t .value .group in
+    record {
+      number = t .number;
+      value =
+          record {
+            group = k;
+            page = ifDone k (t .value .page) (record { count = p .count; groups = putEach (k - 1) (groupStored p ss) (p .groups) });
+            pulses = t .value .pulses;
+          };
+    }
+
+pub half-way-refuted : ¬ (MeetsPageDemand3 half-way)
+unfolding half-way afterCalls refusals.answer numberOf level put atMost allAtMost isRow singles top floorOver lift raise pushOf rankPushes pushes pulsesIn raised fits pushed storeOf wordOf orderFrom K wordAt words vectors vectorsFrom joined select leaves weight total allOf putEach firstRefusing likeFirst isPage takes pageAnswer numberStored groupStored pulsesStored storePageOf
+half-way-refuted =
+    last-fails half-way []
+    (λ d.
+    let same = d .refused (1 ∷ 1 ∷ []) (λ e. omega arith) .0 in
+    let e : _≡_ {A = ℕ} 2 0 = ap (λ (p : Page). level (groupAt p 1 .levels) 3) same in
+    omega arith)
+
+-- one that looks for missing symbols in all groups before it stores in any, as a row of checks over the whole page would
+pub row-first : PageStore
+row-first p ss =
+    let k = firstRefusing (p .count) (λ j. cond (ltb (symbolAt ss j) (K (groupAt p j .n))) 0 5) in
+    ifDone k (storePageOf p ss) (record { number = 5; value = unstored p k })
+
+pub row-first-refuted : ¬ (MeetsPageDemand3 row-first)
+unfolding row-first afterCalls refusals.answer numberOf level put atMost allAtMost isRow singles top floorOver lift raise pushOf rankPushes pushes pulsesIn raised fits pushed storeOf wordOf orderFrom K wordAt words vectors vectorsFrom joined select leaves weight total allOf putEach firstRefusing likeFirst isPage takes pageAnswer numberStored groupStored pulsesStored storePageOf
+row-first-refuted =
+    first-fails row-first []
+    (λ d.
+    let t = d .first-refuses (1 ∷ 2 ∷ []) 1 refl refl (λ e. omega arith) (of-among 0 (λ j. numberStored first-low (1 ∷ 2 ∷ []) j ≡ 0) (λ i l. absurd (omega arith))) in
+    let e : _≡_ {A = ℕ} 5 8 = t .0 in
+    omega arith)
+
+-- one that counts the pulses of the last group alone
+pub last-counted : PageStore
+last-counted p ss =
+    let t = storePageOf p ss in
+    record { number = t .number; value = record { group = t .value .group; page = t .value .page; pulses = ifDone (t .number) (pulsesStored p ss (p .count)) 0 } }
+
+pub last-counted-refuted : ¬ (MeetsPageDemand3 last-counted)
+unfolding last-counted afterCalls refusals.answer numberOf level put atMost allAtMost isRow singles top floorOver lift raise pushOf rankPushes pushes pulsesIn raised fits pushed storeOf wordOf orderFrom K wordAt words vectors vectorsFrom joined select leaves weight total allOf putEach firstRefusing likeFirst isPage takes pageAnswer numberStored groupStored pulsesStored storePageOf applyOf after pulsesOf stands pageStep pagePulses ownCall pulsesOfCalls callsOf
+last-counted-refuted =
+    last-fails last-counted (pageStore (0 ∷ 0 ∷ []) ∷ []) (λ d. let e : _≡_ {A = ℕ} 3 6 = d .pulses in omega arith)
+
+-- one that stores in the first group alone
+pub first-alone : PageStore
+first-alone p ss =
+    let t = storePageOf p ss in
+    record {
+      number = t .number;
+      value = record { group = t .value .group; page = ifDone (t .number) (record { count = p .count; groups = putEach 1 (groupStored p ss) (p .groups) }) p; pulses = t .value .pulses };
+    }
+
+pub first-alone-refuted : ¬ (MeetsPageDemand3 first-alone)
+unfolding first-alone afterCalls refusals.answer numberOf level put atMost allAtMost isRow singles top floorOver lift raise pushOf rankPushes pushes pulsesIn raised fits pushed storeOf wordOf orderFrom K wordAt words vectors vectorsFrom joined select leaves weight total allOf putEach firstRefusing likeFirst isPage takes pageAnswer numberStored groupStored pulsesStored storePageOf applyOf after stands pageStep ownCall callsOf
+first-alone-refuted =
+    last-fails first-alone (pageStore (0 ∷ 0 ∷ []) ∷ [])
+    (λ d. let e : _≡_ {A = ℕ} 0 2 = ap (λ (g : Group). level (g .levels) 1) (d .groups 2 refl) in omega arith)
+
+-- one that loses the last group
+pub loser : PageStore
+loser p ss =
+    let t = storePageOf p ss in
+    let q = t .value .page in
+    record { number = t .number; value = record { group = t .value .group; page = record { count = ifDone (t .number) (q .count - 1) (q .count); groups = q .groups }; pulses = t .value .pulses } }
+
+pub loser-refuted : ¬ (MeetsPageDemand3 loser)
+unfolding loser pageStep afterCalls refusals.answer numberOf level put atMost allAtMost isRow singles top floorOver lift raise pushOf rankPushes pushes pulsesIn raised fits pushed storeOf wordOf orderFrom K wordAt words vectors vectorsFrom joined select leaves weight total allOf putEach firstRefusing likeFirst isPage takes pageAnswer numberStored groupStored pulsesStored storePageOf
+loser-refuted = last-fails loser (pageStore (0 ∷ 0 ∷ []) ∷ []) (λ d. let e : _≡_ {A = ℕ} 1 2 = d .as-many in omega arith)
+
+-- one that takes more symbols than there are groups
+pub lavish : PageStore
+lavish p ss = storePageOf p (take (p .count) ss)
+
+pub lavish-refuted : ¬ (MeetsPageDemand3 lavish)
+unfolding lavish afterCalls refusals.answer numberOf level put atMost allAtMost isRow singles top floorOver lift raise pushOf rankPushes pushes pulsesIn raised fits pushed storeOf wordOf orderFrom K wordAt words vectors vectorsFrom joined select leaves weight total allOf putEach firstRefusing likeFirst isPage takes pageAnswer numberStored groupStored pulsesStored storePageOf
+lavish-refuted = last-fails lavish [] (λ d. let e : _≡_ {A = ℕ} 0 16 = d .no-page (0 ∷ 0 ∷ 0 ∷ []) refl .0 in omega arith)
