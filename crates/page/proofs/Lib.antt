@@ -1,3 +1,4 @@
 pub mod Groups
 pub mod Pages
 pub mod Told
+pub mod Row

@@ -26,8 +26,8 @@ use Rattle.page_store.proofs.PageStore.{taken-parts}
 use Rattle.page.proofs.Pages.{page-done}
 use Rattle.page_laws.specs.PageLists.{PageCall, HoldsGroups, afterCalls, callsOf}
 use Rattle.page_laws.proofs.Groups.{among-below, of-among, all-same, put-same, none-first}
-use Rattle.page_laws.proofs.Steps.{through, group-stored-by}
-use Rattle.page_laws.proofs.PageDemand3.{count-after, room-after, groups-after}
+use Rattle.page_laws.proofs.Steps.{room, through, group-stored-by}
+use Rattle.page_laws.proofs.PageDemand3.{count-after, groups-after}
 
 -- ---- groups
 
@@ -35,14 +35,10 @@ pub holds-after : (p : Page) → HoldsGroups p → (cs : List PageCall) → Hold
 holds-after p h cs =
     let now = afterCalls storePageOf p cs in
     let same = count-after p cs in
-    record {
-      room = room-after p cs (h .room);
-      groups =
-          of-among (now .count) (λ k. IsGroup (groupAt now k))
-          (λ i l.
-          let m : i < p .count = omega arith in
-          rw (groups-after p cs (h .room) i m) (group-after (groupAt p (suc i)) (callsOf storePageOf (suc i) p cs) (h .groups (suc i) (among-below (p .count) i m))));
-    }
+    of-among (now .count) (λ k. IsGroup (groupAt now k))
+    (λ i l.
+    let m : i < p .count = omega arith in
+    rw (groups-after p cs (room p h) i m) (group-after (groupAt p (suc i)) (callsOf storePageOf (suc i) p cs) (h (suc i) (among-below (p .count) i m))))
 
 -- ---- what is stored is read
 
@@ -56,16 +52,16 @@ module _ (p : Page) (h : HoldsGroups p) (ss : List ℕ) (z : storePageOf p ss .n
   accepted i l = through p ss z .1 i l
 
   group-held : (i : ℕ) → i < p .count → IsGroup (groupAt p (suc i))
-  group-held i l = h .groups (suc i) (among-below (p .count) i l)
+  group-held i l = h (suc i) (among-below (p .count) i l)
 
   same-n : (i : ℕ) → i < p .count → groupAt stored (suc i) .n ≡ groupAt p (suc i) .n
   same-n i l =
-      rw (group-stored-by p (h .room) ss i l) (store-holds (groupAt p (suc i)) (symbolAt ss (suc i)) (group-held i l) (accepted i l) .1)
+      rw (group-stored-by p (room p h) ss i l) (store-holds (groupAt p (suc i)) (symbolAt ss (suc i)) (group-held i l) (accepted i l) .1)
 
   reading : (i : ℕ) → i < p .count → (readOf (groupAt stored (suc i)) .number ≡ 0) × (readOf (groupAt stored (suc i)) .value .symbol ≡ symbolAt ss (suc i))
   reading i l =
       let e = store-reads (groupAt p (suc i)) (symbolAt ss (suc i)) (group-held i l) (accepted i l) in
-      rw (group-stored-by p (h .room) ss i l) (ap (λ (t : Told Reading). t .number) e, ap (λ (t : Told Reading). t .value .symbol) e)
+      rw (group-stored-by p (room p h) ss i l) (ap (λ (t : Told Reading). t .number) e, ap (λ (t : Told Reading). t .value .symbol) e)
 
   stored-page : isPage stored ≡ true
   unfolding isPage likeFirst

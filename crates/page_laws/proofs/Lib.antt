@@ -5,3 +5,4 @@ pub mod Holds
 pub mod Valid
 pub mod Bench
 pub mod Refuted
+pub mod Determined

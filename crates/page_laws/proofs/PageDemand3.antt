@@ -23,7 +23,7 @@ use Rattle.page_store.specs.PageStore.{total, symbolAt, takes, StoredPage, numb
 use Rattle.page_store.proofs.PageStore.{store-not}
 use Rattle.page_laws.specs.PageLists.{PageCall, among, isWorn, storeCall, HoldsGroups, pageStep, ownCall, afterCalls, pulsesOfCalls, callsOf, PageDemand3, MeetsPageDemand3}
 use Rattle.page_laws.proofs.Groups.{among-true, among-below, of-among, total-same, total-plus, total-none, FirstAt, none-first, first-none}
-use Rattle.page_laws.proofs.Steps.{Answered, no-page, done, refused, answered, store-call-number, first-refused, step-count, step-length, through, kept, worn-first, worn-store, rival-stays, no-calls, group-stored, group-step, pulses-step}
+use Rattle.page_laws.proofs.Steps.{room, Answered, no-page, done, refused, answered, store-call-number, first-refused, step-count, step-length, through, kept, worn-first, worn-store, rival-stays, no-calls, group-stored, group-step, pulses-step}
 
 -- ---- lists of calls on one group, one after the other
 
@@ -99,7 +99,7 @@ module _ (p : Page) (h : HoldsGroups p) (cs : List PageCall) where
   now = afterCalls storePageOf p cs
 
   own-demand : (k : ℕ) → among (p .count) k ≡ true → Demand3 applyOf (groupAt p k) (calls k p cs)
-  own-demand k e = demand3 (groupAt p k) (h .groups k e) (calls k p cs)
+  own-demand k e = demand3 (groupAt p k) (h k e) (calls k p cs)
 
   in-page : (i : ℕ) → i < p .count → i < now .count
   in-page i l = omega (arith, count-after p cs)
@@ -133,8 +133,8 @@ module _ (p : Page) (h : HoldsGroups p) (cs : List PageCall) where
         let l = among-true (p .count) i e in
         let g = groupAt now (suc i) in
         let c = storeCall (symbolAt ss (suc i)) in
-        let new : groupAt (told .value .page) (suc i) ≡ applyOf g c .value .group = ap (λ (v : StoredPage). groupAt (v .page) (suc i)) (t .2) ∙ group-stored now (room-after p cs (h .room)) ss i (in-page i l) in
-        let twelve : length (g .levels) ≡ 12 = rw (groups-after p cs (h .room) i l) (group-after (groupAt p (suc i)) (calls (suc i) p cs) (h .groups (suc i) e) .levels) in (
+        let new : groupAt (told .value .page) (suc i) ≡ applyOf g c .value .group = ap (λ (v : StoredPage). groupAt (v .page) (suc i)) (t .2) ∙ group-stored now (room-after p cs (room p h)) ss i (in-page i l) in
+        let twelve : length (g .levels) ≡ 12 = rw (groups-after p cs (room p h) i l) (group-after (groupAt p (suc i)) (calls (suc i) p cs) (h (suc i) e) .levels) in (
           store-call-number now ss (suc i) ∙ t .1 i (in-page i l),
           sym (apply-rises g c twelve) ∙ ap (λ (x : Group). rises (g .levels) (x .levels)) (sym new),
         )
@@ -173,7 +173,7 @@ module _ (p : Page) (h : HoldsGroups p) (cs : List PageCall) where
     worn-shut : (i : ℕ) → i < p .count → numberOf (earlierChecks (groupAt now (suc i)) (call (suc i))) ≡ 0
         → (isWorn (applyOf (groupAt now (suc i)) (call (suc i)) .number) ≡ true) ↔ Shut (suc i)
     worn-shut i l e =
-        let same = groups-after p cs (h .room) i l in
+        let same = groups-after p cs (room p h) i l in
         let x = own-demand (suc i) (among-below (p .count) i l) .worn-exactly (call (suc i)) refl (rw same at e) in
         rw same (λ w. x .0 (eqb-true _ 8 w), λ shut. eq-eqb _ 8 (x .1 shut))
 
@@ -205,8 +205,8 @@ module _ (p : Page) (h : HoldsGroups p) (cs : List PageCall) where
   page-claim =
       record {
         as-many = count-after p cs;
-        groups = of-among (p .count) (λ k. groupAt now k ≡ after applyOf (groupAt p k) (calls k p cs)) (groups-after p cs (h .room));
-        pulses = pulses-after p cs (h .room);
+        groups = of-among (p .count) (λ k. groupAt now k ≡ after applyOf (groupAt p k) (calls k p cs)) (groups-after p cs (room p h));
+        pulses = pulses-after p cs (room p h);
         demand3 = own-demand;
         accepted = λ ss. (all-stored ss, λ t. stored-all ss (t .0) (t .1));
         went-through = own-rises;

@@ -53,7 +53,7 @@ module _ (g h : Group) where
   two = page (g ∷ h ∷ [])
 
   two-held : IsGroup g → IsGroup h → HoldsGroups two
-  two-held a b = record { room = omega arith; groups = of-two (λ k. IsGroup (groupAt two k)) a b }
+  two-held a b = of-two (λ k. IsGroup (groupAt two k)) a b
 
 abbrev first-low : Page
 first-low = two low fresh

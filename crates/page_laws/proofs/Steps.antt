@@ -2,20 +2,21 @@
 -- Assumes nothing.
 use Prim.Native.Nat.{ℕ, zero, suc, _-_, _≤_, _<_}
 use native.Mathlib.Nat.{add-zero}
+use native.Mathlib.Decide.{decLt}
 use native.Mathlib.Omega.{arith}
 use mathlib.Core.Path.{_≡_, refl, sym, ap, _∙_}
 use mathlib.Core.Logic.{_≢_, _⊎_, inl, inr, ⊎-elim}
 use mathlib.Core.Bool.{Bool, true, false, false≢true, cond}
 use mathlib.Core.List.{List, [], _∷_}
 use lib.Dec.{leb, eqb}
-use lib.ListN.{length, getD, length-set}
+use lib.ListN.{length, getD, length-set, List·getD-eq-default}
 use lib.Seq.{getD-set-same, getD-set-other}
 use borrow.Author.Tests.{leb-true, eqb-true, eq-eqb, ne-eqb}
 use Rattle.order.specs.declared.Refusal.the-variants.{NoPage}
-use Rattle.order.specs.Refusals.{refusalNumber, Told, answer}
+use Rattle.order.specs.Refusals.{refusalNumber, numberOf, Told, answer}
 use Rattle.order.proofs.Cells.{both, eq-cases}
 use Rattle.group.specs.declared.Group.{Group}
-use Rattle.group.specs.Record.{noGroup}
+use Rattle.group.specs.Record.{noGroup, IsGroup}
 use Rattle.plain_machine.specs.declared.Kind.{Kind}
 use Rattle.plain_machine.specs.declared.Call.{Call}
 use Rattle.engine.specs.ReadStore.{storeOf}
@@ -30,8 +31,23 @@ use Rattle.page_store.specs.PageStore.{total, symbolAt, takes, StoredPage, numb
 use Rattle.page_store.proofs.PageStore.{store-not}
 use Rattle.page.proofs.Groups.{picked-zeros}
 use Rattle.page.proofs.Pages.{back-one, page-done, page-refused}
-use Rattle.page_laws.specs.PageLists.{PageCall, onGroup, pageStore, pageRead, among, putGroup, isWorn, stands, storeCall, pageStep, pagePulses, ownCall}
+use Rattle.page_laws.specs.PageLists.{PageCall, onGroup, pageStore, pageRead, among, putGroup, isWorn, stands, storeCall, HoldsGroups, pageStep, pagePulses, ownCall}
 use Rattle.page_laws.proofs.Groups.{among-true, among-below, total-same, total-none, total-one, length-put, put-at, FirstAt, none-first, none-or-first}
+
+-- ---- a page of groups has places for them
+
+no-group : ¬ (IsGroup noGroup)
+unfolding numberOf
+no-group h = let e : _≡_ {A = ℕ} 1 0 = h .passes in omega arith
+
+pub room : (p : Page) → HoldsGroups p → p .count ≤ length (p .groups)
+room p h = elim (decLt (length (p .groups)) (p .count)) [ yes l ↦ absurd (past (p .count) refl l) | no n ↦ omega arith ]
+  where
+    past : (c : ℕ) → p .count ≡ c → length (p .groups) < c → ⊥
+    past zero e l = omega arith
+    past (suc i) e l =
+        let default : groupAt p (suc i) ≡ noGroup = List·getD-eq-default (p .groups) noGroup {n = suc i - 1} (omega arith) in
+        no-group (rw default at (h (suc i) (rw e (among-below (suc i) i (omega arith)))))
 
 -- ---- what a page store answers
 
@@ -197,7 +213,7 @@ no-calls g = refl
 -- ---- each group goes as its own call takes it
 
 module _ (p : Page) where
-  module _ (room : p .count ≤ length (p .groups)) where
+  module _ (places : p .count ≤ length (p .groups)) where
     on-group : (j : ℕ) (c : Call) (i : ℕ) → i < p .count
         → groupAt (pageStep storePageOf p (onGroup j c)) (suc i) ≡ after applyOf (groupAt p (suc i)) (cond (eqb j (suc i)) (c ∷ []) [])
     unfolding pageStep putGroup after
@@ -220,7 +236,7 @@ module _ (p : Page) where
     unfolding groupStored
     group-stored-by ss i l =
         ap (λ (k : ℕ). getD (putEach (p .count) (groupStored p ss) (p .groups)) k noGroup) (back-one i)
-        ∙ put-at (groupStored p ss) (p .groups) noGroup (p .count) i room l
+        ∙ put-at (groupStored p ss) (p .groups) noGroup (p .count) i places l
 
     pub group-stored : (ss : List ℕ) (i : ℕ) → i < p .count
         → groupAt (storedPage p ss .page) (suc i) ≡ applyOf (groupAt p (suc i)) (storeCall (symbolAt ss (suc i))) .value .group

@@ -39,11 +39,11 @@ use Rattle.page_store.proofs.PageStore.{is-taken}
 use Rattle.page.proofs.Pages.{back-one, page-done}
 use Rattle.page_laws.specs.PageLists.{PageCall, onGroup, among, storeCall, HoldsGroups, OpenedPage, ownCall, afterCalls, callsOf}
 use Rattle.page_laws.proofs.Groups.{among-below, of-among, all-each, none-first}
-use Rattle.page_laws.proofs.Steps.{store-call-number}
+use Rattle.page_laws.proofs.Steps.{room, store-call-number}
 use Rattle.page_laws.proofs.PageDemand3.{count-after, groups-after, page-claim}
 
 pub opened-holds : (n : ℕ) (p : Page) → OpenedPage n p → HoldsGroups p
-opened-holds n p o = record { room = o .room; groups = λ k e. rw (o .groups k e) (open-group n (o .opens)) }
+opened-holds n p o k e = rw (o .groups k e) (open-group n (o .opens))
 
 -- ---- the first page store goes through
 
@@ -111,7 +111,7 @@ module _ (p : Page) (o : OpenedPage 3 p) (i : ℕ) (inside : i < p .count) where
 
   group-now : (j : ℕ) → j < p .count → groupAt now (suc j) ≡ found (eqb (suc i) (suc j))
   unfolding callsOf ownCall after
-  group-now j l = groups-after p wears (o .room) j l ∙ rw (opened-at 3 p o j l) (go (eqb (suc i) (suc j)))
+  group-now j l = groups-after p wears (room p (opened-holds 3 p o)) j l ∙ rw (opened-at 3 p o j l) (go (eqb (suc i) (suc j)))
     where
       go : (b : Bool) → after applyOf (opened 3) (cond b (wearing ∷ []) [] ++ []) ≡ found b
       go true = refl

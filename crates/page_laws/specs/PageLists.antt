@@ -23,7 +23,7 @@ use mathlib.Core.Logic.{_≢_, _↔_}
 use mathlib.Core.Bool.{Bool, true, false, cond, _&&_}
 use mathlib.Core.List.{List, [], _∷_, _++_}
 use lib.Dec.{leb, eqb}
-use lib.ListN.{length, set}
+use lib.ListN.{set}
 use Rattle.order.specs.Refusals.{numberOf, ifDone, Told}
 use Rattle.order.specs.Order.{noOrder}
 use Rattle.group.specs.declared.Group.{Group}
@@ -61,15 +61,13 @@ stands t k = ifDone (t .number) true (isWorn (t .number) && eqb (t .value .group
 abbrev pub storeCall : ℕ → Call
 storeCall s = record { kind = Store s; target = noOrder }
 
-pub record HoldsGroups (p : Page) : Type 0 where
-  pub room : p .count ≤ length (p .groups)
-  pub groups : (k : ℕ) → among (p .count) k ≡ true → IsGroup (groupAt p k)
+abbrev pub HoldsGroups : Page → Type 0
+HoldsGroups p = (k : ℕ) → among (p .count) k ≡ true → IsGroup (groupAt p k)
 
 pub record OpenedPage (n : ℕ) (p : Page) : Type 0 where
   pub opens : openOf n .number ≡ 0
   pub least : 1 ≤ p .count
   pub most : p .count ≤ 8
-  pub room : p .count ≤ length (p .groups)
   pub groups : (k : ℕ) → among (p .count) k ≡ true → groupAt p k ≡ openOf n .value
 
 module _ (store : PageStore) where

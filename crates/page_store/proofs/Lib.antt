@@ -1,3 +1,4 @@
 pub mod Pulses
 pub mod PageStore
 pub mod Told
+pub mod Row
