@@ -1,4 +1,5 @@
--- Document 01, "Cells, ranks, levels": the group record and its rules. That there are twelve levels and twelve caps is in its type.
+-- Document 01, "Cells, ranks, levels": the group record and its rules. That there are twelve levels and twelve caps is in its type in the code; here,
+-- where rows are lists, `IsGroup` says it.
 --
 --   allAtMost m xs      no number is above m
 --   isRow m n xs        whole numbers 0 to m, and 0 in the places beyond n

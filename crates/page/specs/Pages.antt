@@ -2,8 +2,8 @@
 --
 --   groupAt p k         group k of the page; groups are counted from 1
 --   likeFirst p k       group k has the n of group 1
---   isPage p            1 to 8 groups with the same n. What stands after them is not looked at
---   pageAnswer b n number a z    the answer to a page call: 16, and z 0, where b does not hold; the result a where each of the groups 1 to n has the
+--   isPage p            1 to 8 records with the same n; whether each of them is a group is asked group by group. What stands after them is not looked at
+--   pageAnswer b n number a z    the answer to a page call: 16 and z 0 where b does not hold; 0 and the result a where each of the groups 1 to n has the
 --                       number 0; else the number of the first that has not, k, and z k
 --   numberRead, symbolRead    what the read of group k answers: the number, the symbol
 --   ReadSymbols         what the answer to a page read carries: the group that it names, how many symbols, the symbols in eight places

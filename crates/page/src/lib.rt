@@ -16,7 +16,8 @@ pub struct Page {
     pub groups: [Group; 8],
 }
 
-// The answer of a page read: as many symbols as the page has groups, that of group k at index k - 1. Its group is named as by a page store.
+// The answer of a page read: how many symbols, and that of group k at index k - 1; zeros where it is refused. Its group is the first that refuses, 0 where
+// none does or it is no page.
 pub struct PageRead {
     pub outcome: Outcome,
     pub group: usize,
@@ -24,24 +25,23 @@ pub struct PageRead {
     pub symbols: [u32; 8],
 }
 
-// Whether the record is 1 to 8 groups with the same n.
+// Whether it is 1 to 8 records with the same n. Whether each of them is a group is asked by the calls, group by group.
 pub fn is_page(page: Page) -> bool
     ensures { λ r. ⌜ r ≡ isPage page ⌝ }
 {
-    let count = page.count;
-    if count < 1 {
+    if page.count < 1 {
         return false;
     }
-    if 8 < count {
+    if 8 < page.count {
         return false;
     }
     let first = page.groups[0].n;
-    let mut k = 0;
-    while k < count {
-        if page.groups[k].n != first {
+    let mut i = 0;
+    while i < page.count {
+        if page.groups[i].n != first {
             return false;
         }
-        k += 1;
+        i += 1;
     }
     true
 }
@@ -94,7 +94,7 @@ fn outcome_of(answer: ReadAnswer) -> Outcome
     }
 }
 
-// The answer of a page read that is refused at a group.
+// The answer of a page read that is refused, and names this group, or 0.
 fn read_refused(outcome: Outcome, group: usize) -> PageRead
     ensures { λ r. ⌜ toldPageRead r ≡ record { number = outcomeNumber outcome; value = unread group } ⌝ }
 {

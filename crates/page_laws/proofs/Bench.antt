@@ -25,16 +25,16 @@ use Rattle.plain_machine.specs.declared.Call.{Call}
 use Rattle.plain_machine.specs.Machine.{applyOf}
 use Rattle.rivals.specs.Starred.{places, cell, capped, group, done, refused}
 use Rattle.page.specs.declared.Page.{Page}
-use Rattle.page.specs.Groups.{allOf, putEach, firstRefusing}
+use Rattle.page.specs.Groups.{total, allOf, putEach, firstRefusing}
 use Rattle.page.specs.Pages.{likeFirst, isPage, pageAnswer, numberRead, symbolRead, ReadSymbols, unread, readPageOf}
-use Rattle.page_store.specs.PageStore.{total, takes, numberStored, groupStored, pulsesStored, unstored, storePageOf}
-use Rattle.page_laws.specs.PageLists.{PageCall, onGroup, pageStore, pageRead, putGroup, stands, storeCall, pageStep, pagePulses, ownCall, afterCalls, pulsesOfCalls, callsOf}
+use Rattle.page_store.specs.StoreAnswer.{takes, numberStored, groupStored, pulsesStored, noneStored, storePageOf}
+use Rattle.page_laws.specs.PageLists.{PageCall, onGroup, storePage, readPage, putGroup, stands, storeCall, pageStep, pagePulses, ownCall, afterCalls, pulsesOfCalls, callsOf}
 
 abbrev pub page : List Group → Page
 page gs = record { count = length gs; groups = places 8 noGroup gs }
 
-abbrev pub fresh : Group
-fresh = group false (0 ∷ 0 ∷ 0 ∷ [])
+abbrev pub blank : Group
+blank = group false (0 ∷ 0 ∷ 0 ∷ [])
 
 -- cell 3 capped at 1, so that symbol 1 is refused as worn
 abbrev pub low : Group
@@ -44,7 +44,7 @@ low = capped false (0 ∷ 0 ∷ 0 ∷ []) (4095 ∷ 4095 ∷ 1 ∷ [])
 abbrev none : Group
 none = group false (4096 ∷ 0 ∷ 0 ∷ [])
 
--- an order that is two exchanges from every codeword
+-- an order at distance 2 or more from every codeword
 abbrev lost : Group
 lost = group true (3 ∷ 2 ∷ 1 ∷ 4 ∷ [])
 
@@ -54,38 +54,53 @@ both = page (group true (0 ∷ 1 ∷ 2 ∷ []) ∷ group true (2 ∷ 1 ∷ 0 ∷
 abbrev symbols : List ℕ → ReadSymbols
 symbols ss = record { group = 0; count = length ss; symbols = places 8 0 ss }
 
--- stored in both groups, and read from both; refused by the second, and by the first of two that refuse; a symbol that there is not, before worn in a
--- later group; different n, no cells beside three and no cells in both; a symbol too few, and one too many
-pub pages-answer :
-    (storePageOf (page (fresh ∷ fresh ∷ [])) (1 ∷ 0 ∷ []) ≡ done (record { group = 0; page = both; pulses = 6 }))
-    × (readPageOf both ≡ done (symbols (1 ∷ 0 ∷ [])))
-    × (storePageOf (page (fresh ∷ low ∷ [])) (1 ∷ 1 ∷ []) ≡ refused 8 (unstored (page (fresh ∷ low ∷ [])) 2))
-    × (storePageOf (page (low ∷ none ∷ [])) (1 ∷ 1 ∷ []) ≡ refused 8 (unstored (page (low ∷ none ∷ [])) 1))
-    × (storePageOf (page (fresh ∷ low ∷ [])) (2 ∷ 1 ∷ []) ≡ refused 5 (unstored (page (fresh ∷ low ∷ [])) 1))
-    × (readPageOf (page (group true (0 ∷ 1 ∷ 2 ∷ []) ∷ fresh ∷ [])) ≡ refused 6 (unread 2))
-    × (readPageOf (page (group true (1 ∷ 2 ∷ 3 ∷ 4 ∷ []) ∷ lost ∷ [])) ≡ refused 7 (unread 2))
-    × (storePageOf (page (fresh ∷ lost ∷ [])) (1 ∷ 1 ∷ []) ≡ refused 16 (unstored (page (fresh ∷ lost ∷ [])) 0))
-    × (storePageOf (page (fresh ∷ noGroup ∷ [])) (1 ∷ 1 ∷ []) ≡ refused 16 (unstored (page (fresh ∷ noGroup ∷ [])) 0))
-    × (storePageOf (page (noGroup ∷ noGroup ∷ [])) (1 ∷ 1 ∷ []) ≡ refused 1 (unstored (page (noGroup ∷ noGroup ∷ [])) 1))
-    × (storePageOf (page (fresh ∷ fresh ∷ [])) (1 ∷ []) ≡ refused 16 (unstored (page (fresh ∷ fresh ∷ [])) 0))
-    × (storePageOf (page (fresh ∷ fresh ∷ [])) (1 ∷ 0 ∷ 0 ∷ []) ≡ refused 16 (unstored (page (fresh ∷ fresh ∷ [])) 0))
-unfolding refusals.answer refusals.numberOf level put atMost allAtMost isRow singles top floorOver lift raise pushOf rankPushes pushes pulsesIn raised fits pushed storeOf wordOf orderFrom K wordAt words vectors vectorsFrom joined select leaves weight standsAbove insert sorted sensed readOf readingAt correction firstBelow isCodeword symbolOf wordNumber indexOf same coordinatesTo coordinateOf total allOf putEach firstRefusing likeFirst isPage takes pageAnswer numberStored groupStored pulsesStored storePageOf numberRead symbolRead readPageOf
-pages-answer = (refl, refl, refl, refl, refl, refl, refl, refl, refl, refl, refl, refl)
+-- four cells, holding a symbol
+abbrev pub four : Group
+four = group true (1 ∷ 2 ∷ 3 ∷ 4 ∷ [])
 
--- cell 3 of group 2 wears to 1; then a page store is refused as worn by group 2, one is refused 5 by group 1, a page read is blank, and one goes through
-abbrev wearing : Call
-wearing = record { kind = Wear (cell 3) 1; target = noOrder }
+-- nine groups are told of, which no page has
+abbrev nine : Page
+nine = record { count = 9; groups = places 8 noGroup [] }
+
+-- stored in both groups, and read from both
+-- refused as worn by the second group, and by the first, though the second is no group; refused 5 by the first, though the second is worn
+-- read: the second is blank, the second is lost, the first is blank though the second is no group
+-- 16: another n in the second; no cells in the second; a symbol too few, and one too many; no group at all, and nine, stored and read
+-- no cells in both is 1, group 1
+pub pages-answer :
+    (storePageOf (page (blank ∷ blank ∷ [])) (1 ∷ 0 ∷ []) ≡ done (record { group = 0; page = both; pulses = 6 }))
+    × (readPageOf both ≡ done (symbols (1 ∷ 0 ∷ [])))
+    × (storePageOf (page (blank ∷ low ∷ [])) (1 ∷ 1 ∷ []) ≡ refused 8 (noneStored (page (blank ∷ low ∷ [])) 2))
+    × (storePageOf (page (low ∷ none ∷ [])) (1 ∷ 1 ∷ []) ≡ refused 8 (noneStored (page (low ∷ none ∷ [])) 1))
+    × (storePageOf (page (blank ∷ low ∷ [])) (2 ∷ 1 ∷ []) ≡ refused 5 (noneStored (page (blank ∷ low ∷ [])) 1))
+    × (readPageOf (page (group true (0 ∷ 1 ∷ 2 ∷ []) ∷ blank ∷ [])) ≡ refused 6 (unread 2))
+    × (readPageOf (page (four ∷ lost ∷ [])) ≡ refused 7 (unread 2))
+    × (readPageOf (page (blank ∷ none ∷ [])) ≡ refused 6 (unread 1))
+    × (storePageOf (page (blank ∷ four ∷ [])) (1 ∷ 1 ∷ []) ≡ refused 16 (noneStored (page (blank ∷ four ∷ [])) 0))
+    × (readPageOf (page (blank ∷ noGroup ∷ [])) ≡ refused 16 (unread 0))
+    × (storePageOf (page (blank ∷ blank ∷ [])) (1 ∷ []) ≡ refused 16 (noneStored (page (blank ∷ blank ∷ [])) 0))
+    × (storePageOf (page (blank ∷ blank ∷ [])) (1 ∷ 0 ∷ 0 ∷ []) ≡ refused 16 (noneStored (page (blank ∷ blank ∷ [])) 0))
+    × (storePageOf (page []) [] ≡ refused 16 (noneStored (page []) 0))
+    × (readPageOf nine ≡ refused 16 (unread 0))
+    × (storePageOf (page (noGroup ∷ noGroup ∷ [])) (1 ∷ 1 ∷ []) ≡ refused 1 (noneStored (page (noGroup ∷ noGroup ∷ [])) 1))
+unfolding refusals.answer refusals.numberOf level put atMost allAtMost isRow singles top floorOver lift raise pushOf rankPushes pushes pulsesIn raised fits pushed storeOf wordOf orderFrom K wordAt words vectors vectorsFrom joined select leaves weight standsAbove insert sorted sensed readOf readingAt correction firstBelow isCodeword symbolOf wordNumber indexOf same coordinatesTo coordinateOf total allOf putEach firstRefusing likeFirst isPage takes pageAnswer numberStored groupStored pulsesStored storePageOf numberRead symbolRead readPageOf
+pages-answer = (refl, refl, refl, refl, refl, refl, refl, refl, refl, refl, refl, refl, refl, refl, refl)
+
+-- cell 3 of group 2 wears to 1, and of group 3, which the page does not have; then a page store is refused as worn by group 2, one is refused 5 by
+-- group 1, a page is read, and a page store goes through
+abbrev cell-3-wears : Call
+cell-3-wears = record { kind = Wear (cell 3) 1; target = noOrder }
 
 abbrev course : List PageCall
-course = onGroup 2 wearing ∷ pageStore (1 ∷ 1 ∷ []) ∷ pageStore (2 ∷ 0 ∷ []) ∷ pageRead ∷ pageStore (1 ∷ 0 ∷ []) ∷ []
+course = onGroup 2 cell-3-wears ∷ onGroup 3 cell-3-wears ∷ storePage (1 ∷ 1 ∷ []) ∷ storePage (2 ∷ 0 ∷ []) ∷ readPage ∷ storePage (1 ∷ 0 ∷ []) ∷ []
 
-abbrev two : Page
-two = page (fresh ∷ fresh ∷ [])
+abbrev start : Page
+start = page (blank ∷ blank ∷ [])
 
-pub lists-of-two :
-    (callsOf storePageOf 1 two course ≡ storeCall 1 ∷ [])
-    × (callsOf storePageOf 2 two course ≡ wearing ∷ storeCall 1 ∷ storeCall 0 ∷ [])
-    × (afterCalls storePageOf two course ≡ page (group true (0 ∷ 1 ∷ 2 ∷ []) ∷ capped true (2 ∷ 1 ∷ 0 ∷ []) (4095 ∷ 4095 ∷ 1 ∷ []) ∷ []))
-    × (pulsesOfCalls storePageOf two course ≡ 6)
+pub own-lists :
+    (callsOf storePageOf 1 start course ≡ storeCall 1 ∷ [])
+    × (callsOf storePageOf 2 start course ≡ cell-3-wears ∷ storeCall 1 ∷ storeCall 0 ∷ [])
+    × (afterCalls storePageOf start course ≡ page (group true (0 ∷ 1 ∷ 2 ∷ []) ∷ capped true (2 ∷ 1 ∷ 0 ∷ []) (4095 ∷ 4095 ∷ 1 ∷ []) ∷ []))
+    × (pulsesOfCalls storePageOf start course ≡ 6)
 unfolding refusals.answer refusals.numberOf level put atMost allAtMost isRow singles top floorOver lift raise pushOf rankPushes pushes pulsesIn raised fits pushed wearOf storeOf applyOf wordOf orderFrom K wordAt words vectors vectorsFrom joined select leaves weight total allOf putEach firstRefusing likeFirst isPage takes pageAnswer numberStored groupStored pulsesStored storePageOf putGroup stands pageStep pagePulses ownCall afterCalls pulsesOfCalls callsOf
-lists-of-two = (refl, refl, refl, refl)
+own-lists = (refl, refl, refl, refl)

@@ -18,8 +18,8 @@ use Rattle.rivals.specs.Rivals.{after, pulsesOf}
 use Rattle.page.specs.declared.Page.{Page}
 use Rattle.page.specs.Groups.{allOf}
 use Rattle.page.specs.Pages.{groupAt, likeFirst, isPage}
-use Rattle.page_store.specs.PageStore.{symbolAt, takes, numberStored, StoredPage, storePageOf}
-use Rattle.page_laws.specs.PageLists.{PageCall, onGroup, pageStore, pageRead, PageStore, among, isWorn, stands, HoldsGroups, pageStep, ownCall, afterCalls, pulsesOfCalls, callsOf, PageDemand3, MeetsPageDemand3}
+use Rattle.page_store.specs.StoreAnswer.{symbolAt, takes, numberStored, AfterStore, storePageOf}
+use Rattle.page_laws.specs.PageLists.{PageCall, onGroup, storePage, readPage, PageMachine, among, isWorn, stands, HoldsGroups, pageStep, ownCall, afterCalls, pulsesOfCalls, callsOf, PageDemand3, MeetsPageDemand3}
 use Rattle.page_laws.proofs.Groups.{among-below, of-among, all-same, total-same, FirstAt, first-none}
 use Rattle.page_laws.proofs.Steps.{Answered, no-page, done, refused, answered}
 use Rattle.page_laws.proofs.PageDemand3.{page-claim}
@@ -57,14 +57,14 @@ module _ {p q : Page} (s : SameGroups p q) where
     unfolding numberStored
     number-same k e = ap (λ (g : Group). storeOf g (symbolAt ss k) .number) (s .groups k e)
 
-module _ (store : PageStore) (meets : MeetsPageDemand3 store) where
+module _ (store : PageMachine) (meets : MeetsPageDemand3 store) where
   -- ---- the next page store
 
   module _ {p q : Page} (s : SameGroups p q) (h : HoldsGroups q) (ss : List ℕ) where
-    abbrev theirs : Told StoredPage
+    abbrev theirs : Told AfterStore
     theirs = store p ss
 
-    abbrev ours : Told StoredPage
+    abbrev ours : Told AfterStore
     ours = storePageOf q ss
 
     abbrev claim : PageDemand3 store p []
@@ -113,8 +113,8 @@ module _ (store : PageStore) (meets : MeetsPageDemand3 store) where
     own-same : (c : PageCall) (k : ℕ) → ownCall store k p c ≡ ownCall storePageOf k q c
     unfolding ownCall
     own-same (onGroup j c) k = refl
-    own-same (pageStore ss) k = rw (stands-same s h ss k)
-    own-same pageRead k = refl
+    own-same (storePage ss) k = rw (stands-same s h ss k)
+    own-same readPage k = refl
 
     step-same : (c : PageCall) → SameGroups (pageStep store p c) (pageStep storePageOf q c)
     unfolding afterCalls callsOf

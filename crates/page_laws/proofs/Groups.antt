@@ -11,9 +11,8 @@ use lib.ListN.{length, getD, length-set}
 use lib.Seq.{getD-set-same, getD-set-other}
 use borrow.Author.Tests.{leb-true, le-leb}
 use Rattle.order.proofs.Cells.{both}
-use Rattle.page.specs.Groups.{allOf, putEach, firstRefusing}
+use Rattle.page.specs.Groups.{total, allOf, putEach, firstRefusing}
 use Rattle.page.proofs.Groups.{last-or, none-next, first-at}
-use Rattle.page_store.specs.PageStore.{total}
 use Rattle.page_laws.specs.PageLists.{among}
 
 -- ---- a number from 1 to n

@@ -21,8 +21,8 @@ use Rattle.rivals.proofs.Demand3.{group-after}
 use Rattle.page.specs.declared.Page.{Page}
 use Rattle.page.specs.Groups.{putEach}
 use Rattle.page.specs.Pages.{groupAt, likeFirst, isPage, numberRead, symbolRead, symbolsOf, unread, readPageOf}
-use Rattle.page_store.specs.PageStore.{symbolAt, numberStored, storedPage, storePageOf}
-use Rattle.page_store.proofs.PageStore.{taken-parts}
+use Rattle.page_store.specs.StoreAnswer.{symbolAt, numberStored, allStored, storePageOf}
+use Rattle.page_store.proofs.Storing.{taken-parts}
 use Rattle.page.proofs.Pages.{page-done}
 use Rattle.page_laws.specs.PageLists.{PageCall, HoldsGroups, afterCalls, callsOf}
 use Rattle.page_laws.proofs.Groups.{among-below, of-among, all-same, put-same, none-first}
@@ -44,7 +44,7 @@ holds-after p h cs =
 
 module _ (p : Page) (h : HoldsGroups p) (ss : List ℕ) (z : storePageOf p ss .number ≡ 0) where
   abbrev stored : Page
-  stored = storedPage p ss .page
+  stored = allStored p ss .page
 
   -- the store of group i + 1 was accepted
   accepted : (i : ℕ) → i < p .count → storeOf (groupAt p (suc i)) (symbolAt ss (suc i)) .number ≡ 0

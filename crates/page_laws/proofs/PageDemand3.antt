@@ -18,12 +18,13 @@ use Rattle.plain_machine.proofs.Machine.{apply-number, apply-rises}
 use Rattle.rivals.specs.Rivals.{after, pulsesOf, plain, Raisable, Demand3}
 use Rattle.rivals.proofs.Demand3.{group-after, demand3}
 use Rattle.page.specs.declared.Page.{Page}
+use Rattle.page.specs.Groups.{total}
 use Rattle.page.specs.Pages.{groupAt}
-use Rattle.page_store.specs.PageStore.{total, symbolAt, takes, StoredPage, numberStored, storePageOf}
-use Rattle.page_store.proofs.PageStore.{store-not}
-use Rattle.page_laws.specs.PageLists.{PageCall, among, isWorn, storeCall, HoldsGroups, pageStep, ownCall, afterCalls, pulsesOfCalls, callsOf, PageDemand3, MeetsPageDemand3}
+use Rattle.page_store.specs.StoreAnswer.{symbolAt, takes, AfterStore, numberStored, storePageOf}
+use Rattle.page_store.proofs.Storing.{store-not}
+use Rattle.page_laws.specs.PageLists.{PageCall, storePage, among, isWorn, storeCall, HoldsGroups, pageStep, ownCall, afterCalls, pulsesOfCalls, callsOf, PageDemand3, MeetsPageDemand3}
 use Rattle.page_laws.proofs.Groups.{among-true, among-below, of-among, total-same, total-plus, total-none, FirstAt, none-first, first-none}
-use Rattle.page_laws.proofs.Steps.{room, Answered, no-page, done, refused, answered, store-call-number, first-refused, step-count, step-length, through, kept, worn-first, worn-store, rival-stays, no-calls, group-stored, group-step, pulses-step}
+use Rattle.page_laws.proofs.Steps.{room, Answered, no-page, done, refused, answered, store-call-number, first-refused, step-count, step-length, through, kept, through-stands, worn-stands, other-not, not-stands, own-stands, own-not, worn-first, worn-store, rival-stays, no-calls, group-stored, group-step, pulses-step}
 
 -- ---- lists of calls on one group, one after the other
 
@@ -105,7 +106,7 @@ module _ (p : Page) (h : HoldsGroups p) (cs : List PageCall) where
   in-page i l = omega (arith, count-after p cs)
 
   module _ (ss : List ℕ) where
-    abbrev told : Told StoredPage
+    abbrev told : Told AfterStore
     told = storePageOf now ss
 
     abbrev Each : ℕ → Type 0
@@ -122,21 +123,27 @@ module _ (p : Page) (h : HoldsGroups p) (cs : List PageCall) where
       where
         go : Answered now ss → told .number ≡ 0
         go (no-page f e) = absurd (false≢true (sym f ∙ t))
-        go (done f a e) = ap (λ (s : Told StoredPage). s .number) e
+        go (done f a e) = ap (λ (s : Told AfterStore). s .number) e
         go (refused f i a e) = absurd (a .refuses (all (suc i) (among-below (p .count) i (omega (arith, a .below, count-after p cs)))))
 
-    own-rises : told .number ≡ 0 → (k : ℕ) → among (p .count) k ≡ true → let answer = applyOf (groupAt now k) (storeCall (symbolAt ss k)) in
-        (answer .number ≡ 0) × (answer .value .pulses ≡ rises (groupAt now k .levels) (groupAt (told .value .page) k .levels))
-    own-rises z zero e = absurd (false≢true e)
-    own-rises z (suc i) e =
+    abbrev call : ℕ → Call
+    call k = storeCall (symbolAt ss k)
+
+    abbrev own : ℕ → List Call
+    own k = ownCall storePageOf k now (storePage ss)
+
+    stored-each : told .number ≡ 0 → (k : ℕ) → among (p .count) k ≡ true → let answer = applyOf (groupAt now k) (call k) in
+        (own k ≡ call k ∷ []) × (answer .number ≡ 0) × (answer .value .pulses ≡ rises (groupAt now k .levels) (groupAt (told .value .page) k .levels))
+    stored-each z zero e = absurd (false≢true e)
+    stored-each z (suc i) e =
         let t = through now ss z in
         let l = among-true (p .count) i e in
         let g = groupAt now (suc i) in
-        let c = storeCall (symbolAt ss (suc i)) in
-        let new : groupAt (told .value .page) (suc i) ≡ applyOf g c .value .group = ap (λ (v : StoredPage). groupAt (v .page) (suc i)) (t .2) ∙ group-stored now (room-after p cs (room p h)) ss i (in-page i l) in
+        let new : groupAt (told .value .page) (suc i) ≡ applyOf g (call (suc i)) .value .group = ap (λ (v : AfterStore). groupAt (v .page) (suc i)) (t .2) ∙ group-stored now (room-after p cs (room p h)) ss i (in-page i l) in
         let twelve : length (g .levels) ≡ 12 = rw (groups-after p cs (room p h) i l) (group-after (groupAt p (suc i)) (calls (suc i) p cs) (h (suc i) e) .levels) in (
+          own-stands now ss (suc i) (through-stands now ss (suc i) z),
           store-call-number now ss (suc i) ∙ t .1 i (in-page i l),
-          sym (apply-rises g c twelve) ∙ ap (λ (x : Group). rises (g .levels) (x .levels)) (sym new),
+          sym (apply-rises g (call (suc i)) twelve) ∙ ap (λ (x : Group). rises (g .levels) (x .levels)) (sym new),
         )
 
     none-taken : takes now ss ≡ false → (told .number ≡ 16) × (told .value .group ≡ 0)
@@ -159,11 +166,18 @@ module _ (p : Page) (h : HoldsGroups p) (cs : List PageCall) where
     refused-first (suc i) t m r b = rw (first-refused now ss t i (first i (among-true (p .count) i m) b r)) (refl, refl)
 
     named-worn : isWorn (told .number) ≡ true
-        → let k = told .value .group in (among (p .count) k ≡ true) × (applyOf (groupAt now k) (storeCall (symbolAt ss k)) .number ≡ told .number)
-    named-worn w = let t = worn-store now ss w in (ap (λ (n : ℕ). among n (told .value .group)) (sym (count-after p cs)) ∙ t .0, t .1)
+        → let k = told .value .group in
+        (among (p .count) k ≡ true) × (own k ≡ call k ∷ []) × (applyOf (groupAt now k) (call k) .number ≡ told .number) × ((j : ℕ) → j ≢ k → own j ≡ [])
+    named-worn w =
+        let t = worn-store now ss w in (
+          ap (λ (n : ℕ). among n (told .value .group)) (sym (count-after p cs)) ∙ t .0,
+          own-stands now ss (told .value .group) (worn-stands now ss w),
+          t .1,
+          λ j d. own-not now ss j (other-not now ss w j d),
+        )
 
-    abbrev call : ℕ → Call
-    call k = storeCall (symbolAt ss k)
+    no-list : told .number ≢ 0 → isWorn (told .number) ≡ false → (k : ℕ) → own k ≡ []
+    no-list r w k = own-not now ss k (not-stands now ss r w k)
 
     -- no rival of group k can be raised to show the codeword of its symbol
     abbrev Shut : ℕ → Type 0
@@ -209,12 +223,13 @@ module _ (p : Page) (h : HoldsGroups p) (cs : List PageCall) where
         pulses = pulses-after p cs (room p h);
         demand3 = own-demand;
         accepted = λ ss. (all-stored ss, λ t. stored-all ss (t .0) (t .1));
-        went-through = own-rises;
+        went-through = stored-each;
         no-page = none-taken;
         first-refuses = refused-first;
         refused = kept now;
         rivals-stay = λ ss z k e. rival-stays now ss z k;
         worn-named = named-worn;
+        in-no-list = no-list;
         worn-exactly = λ ss k. (λ w. worn-from ss k (w .0) (w .1), from-worn ss k);
       }
 

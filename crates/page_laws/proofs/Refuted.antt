@@ -1,7 +1,7 @@
 -- Wrong page stores that fail the claim. Each is caught on a page of two groups of three cells, neither of them written: one in which symbol 1 is
 -- refused as worn, and a new one.
 -- Assumes nothing.
-use Prim.Native.Nat.{ℕ, zero, suc, _-_, _<_}
+use Prim.Native.Nat.{ℕ, zero, suc, _+_, _-_, _<_}
 use mathlib.Core.Path.{_≡_, refl, ap}
 use mathlib.Core.Bool.{true, cond}
 use mathlib.Core.List.{List, [], _∷_}
@@ -23,16 +23,16 @@ use Rattle.engine.specs.ReadStore.{storeOf}
 use Rattle.plain_machine.specs.Machine.{applyOf}
 use Rattle.rivals.specs.Rivals.{after, pulsesOf}
 use Rattle.page.specs.declared.Page.{Page}
-use Rattle.page.specs.Groups.{allOf, putEach, firstRefusing}
+use Rattle.page.specs.Groups.{total, allOf, putEach, firstRefusing}
 use Rattle.page.specs.Pages.{groupAt, likeFirst, isPage, pageAnswer}
-use Rattle.page_store.specs.PageStore.{total, symbolAt, takes, numberStored, groupStored, pulsesStored, unstored, storePageOf}
-use Rattle.page_laws.specs.PageLists.{PageCall, pageStore, PageStore, among, stands, HoldsGroups, pageStep, pagePulses, ownCall, afterCalls, pulsesOfCalls, callsOf, PageDemand3, MeetsPageDemand3}
+use Rattle.page_store.specs.StoreAnswer.{symbolAt, takes, numberStored, groupStored, pulsesStored, allStored, noneStored, storePageOf}
+use Rattle.page_laws.specs.PageLists.{PageCall, storePage, PageMachine, among, stands, HoldsGroups, pageStep, pagePulses, ownCall, afterCalls, pulsesOfCalls, callsOf, PageDemand3, MeetsPageDemand3}
 use Rattle.page_laws.proofs.Groups.{of-among}
-use Rattle.page_laws.proofs.Bench.{page, fresh, low}
+use Rattle.page_laws.proofs.Bench.{page, blank, low, four}
 
 -- ---- pages of two groups
 
-new-group : IsGroup fresh
+new-group : IsGroup blank
 unfolding numberOf isRow allAtMost
 new-group = record { passes = refl; levels = refl; caps = refl }
 
@@ -48,6 +48,10 @@ of-two P a b = of-among 2 P by
     by (suc zero) l = b
     by (suc (suc i)) l = absurd (omega arith)
 
+four-group : IsGroup four
+unfolding numberOf isRow allAtMost
+four-group = record { passes = refl; levels = refl; caps = refl }
+
 module _ (g h : Group) where
   abbrev two : Page
   two = page (g ∷ h ∷ [])
@@ -56,24 +60,24 @@ module _ (g h : Group) where
   two-held a b = of-two (λ k. IsGroup (groupAt two k)) a b
 
 abbrev first-low : Page
-first-low = two low fresh
+first-low = two low blank
 
 abbrev last-low : Page
-last-low = two fresh low
+last-low = two blank low
 
-module _ (store : PageStore) where
+module _ (store : PageMachine) where
   -- one list of calls on one of these pages is enough
   first-fails : (cs : List PageCall) → ¬ (PageDemand3 store first-low cs) → ¬ (MeetsPageDemand3 store)
-  first-fails cs fault meets = fault (meets first-low (two-held low fresh low-group new-group) cs)
+  first-fails cs fault meets = fault (meets first-low (two-held low blank low-group new-group) cs)
 
   last-fails : (cs : List PageCall) → ¬ (PageDemand3 store last-low cs) → ¬ (MeetsPageDemand3 store)
-  last-fails cs fault meets = fault (meets last-low (two-held fresh low new-group low-group) cs)
+  last-fails cs fault meets = fault (meets last-low (two-held blank low new-group low-group) cs)
 
 -- ---- such page stores
 
 -- one that says worn to everything, and blames group 1
-pub quitter : PageStore
-quitter p ss = record { number = 8; value = unstored p 1 }
+pub quitter : PageMachine
+quitter p ss = record { number = 8; value = noneStored p 1 }
 
 pub quitter-refuted : ¬ (MeetsPageDemand3 quitter)
 unfolding quitter afterCalls refusals.answer numberOf level put atMost allAtMost isRow singles top floorOver lift raise pushOf rankPushes pushes pulsesIn raised fits pushed storeOf wordOf orderFrom K wordAt words vectors vectorsFrom joined select leaves weight total allOf putEach firstRefusing likeFirst isPage takes pageAnswer numberStored groupStored pulsesStored storePageOf
@@ -82,7 +86,7 @@ quitter-refuted =
     (λ d. let e : _≡_ {A = ℕ} 8 0 = d .accepted (0 ∷ 0 ∷ []) .1 (refl, of-two (λ k. numberStored last-low (0 ∷ 0 ∷ []) k ≡ 0) refl refl) in omega arith)
 
 -- one that keeps what it stored before a group refuses
-pub half-way : PageStore
+pub half-way : PageMachine
 half-way p ss =
     let t = storePageOf p ss in
     let k = t .value .group in
@@ -105,11 +109,11 @@ half-way-refuted =
     let e : _≡_ {A = ℕ} 2 0 = ap (λ (p : Page). level (groupAt p 1 .levels) 3) same in
     omega arith)
 
--- one that looks for missing symbols in all groups before it stores in any, as a row of checks over the whole page would
-pub row-first : PageStore
+-- one that asks in all groups whether there is such a symbol before it stores in any, as a row of checks over the whole page would
+pub row-first : PageMachine
 row-first p ss =
     let k = firstRefusing (p .count) (λ j. cond (ltb (symbolAt ss j) (K (groupAt p j .n))) 0 5) in
-    ifDone k (storePageOf p ss) (record { number = 5; value = unstored p k })
+    ifDone k (storePageOf p ss) (record { number = 5; value = noneStored p k })
 
 pub row-first-refuted : ¬ (MeetsPageDemand3 row-first)
 unfolding row-first afterCalls refusals.answer numberOf level put atMost allAtMost isRow singles top floorOver lift raise pushOf rankPushes pushes pulsesIn raised fits pushed storeOf wordOf orderFrom K wordAt words vectors vectorsFrom joined select leaves weight total allOf putEach firstRefusing likeFirst isPage takes pageAnswer numberStored groupStored pulsesStored storePageOf
@@ -121,7 +125,7 @@ row-first-refuted =
     omega arith)
 
 -- one that counts the pulses of the last group alone
-pub last-counted : PageStore
+pub last-counted : PageMachine
 last-counted p ss =
     let t = storePageOf p ss in
     record { number = t .number; value = record { group = t .value .group; page = t .value .page; pulses = ifDone (t .number) (pulsesStored p ss (p .count)) 0 } }
@@ -129,10 +133,10 @@ last-counted p ss =
 pub last-counted-refuted : ¬ (MeetsPageDemand3 last-counted)
 unfolding last-counted afterCalls refusals.answer numberOf level put atMost allAtMost isRow singles top floorOver lift raise pushOf rankPushes pushes pulsesIn raised fits pushed storeOf wordOf orderFrom K wordAt words vectors vectorsFrom joined select leaves weight total allOf putEach firstRefusing likeFirst isPage takes pageAnswer numberStored groupStored pulsesStored storePageOf applyOf after pulsesOf stands pageStep pagePulses ownCall pulsesOfCalls callsOf
 last-counted-refuted =
-    last-fails last-counted (pageStore (0 ∷ 0 ∷ []) ∷ []) (λ d. let e : _≡_ {A = ℕ} 3 6 = d .pulses in omega arith)
+    last-fails last-counted (storePage (0 ∷ 0 ∷ []) ∷ []) (λ d. let e : _≡_ {A = ℕ} 3 6 = d .pulses in omega arith)
 
 -- one that stores in the first group alone
-pub first-alone : PageStore
+pub first-alone : PageMachine
 first-alone p ss =
     let t = storePageOf p ss in
     record {
@@ -143,11 +147,11 @@ first-alone p ss =
 pub first-alone-refuted : ¬ (MeetsPageDemand3 first-alone)
 unfolding first-alone afterCalls refusals.answer numberOf level put atMost allAtMost isRow singles top floorOver lift raise pushOf rankPushes pushes pulsesIn raised fits pushed storeOf wordOf orderFrom K wordAt words vectors vectorsFrom joined select leaves weight total allOf putEach firstRefusing likeFirst isPage takes pageAnswer numberStored groupStored pulsesStored storePageOf applyOf after stands pageStep ownCall callsOf
 first-alone-refuted =
-    last-fails first-alone (pageStore (0 ∷ 0 ∷ []) ∷ [])
+    last-fails first-alone (storePage (0 ∷ 0 ∷ []) ∷ [])
     (λ d. let e : _≡_ {A = ℕ} 0 2 = ap (λ (g : Group). level (g .levels) 1) (d .groups 2 refl) in omega arith)
 
 -- one that loses the last group
-pub loser : PageStore
+pub loser : PageMachine
 loser p ss =
     let t = storePageOf p ss in
     let q = t .value .page in
@@ -155,12 +159,46 @@ loser p ss =
 
 pub loser-refuted : ¬ (MeetsPageDemand3 loser)
 unfolding loser pageStep afterCalls refusals.answer numberOf level put atMost allAtMost isRow singles top floorOver lift raise pushOf rankPushes pushes pulsesIn raised fits pushed storeOf wordOf orderFrom K wordAt words vectors vectorsFrom joined select leaves weight total allOf putEach firstRefusing likeFirst isPage takes pageAnswer numberStored groupStored pulsesStored storePageOf
-loser-refuted = last-fails loser (pageStore (0 ∷ 0 ∷ []) ∷ []) (λ d. let e : _≡_ {A = ℕ} 1 2 = d .as-many in omega arith)
+loser-refuted = last-fails loser (storePage (0 ∷ 0 ∷ []) ∷ []) (λ d. let e : _≡_ {A = ℕ} 1 2 = d .as-many in omega arith)
 
 -- one that takes more symbols than there are groups
-pub lavish : PageStore
+pub lavish : PageMachine
 lavish p ss = storePageOf p (take (p .count) ss)
 
 pub lavish-refuted : ¬ (MeetsPageDemand3 lavish)
 unfolding lavish afterCalls refusals.answer numberOf level put atMost allAtMost isRow singles top floorOver lift raise pushOf rankPushes pushes pulsesIn raised fits pushed storeOf wordOf orderFrom K wordAt words vectors vectorsFrom joined select leaves weight total allOf putEach firstRefusing likeFirst isPage takes pageAnswer numberStored groupStored pulsesStored storePageOf
 lavish-refuted = last-fails lavish [] (λ d. let e : _≡_ {A = ℕ} 0 16 = d .no-page (0 ∷ 0 ∷ 0 ∷ []) refl .0 in omega arith)
+
+-- one that takes groups of different n
+pub mixer : PageMachine
+mixer p ss = ifDone (firstRefusing (p .count) (numberStored p ss)) (record { number = 0; value = allStored p ss }) (storePageOf p ss)
+
+pub mixer-refuted : ¬ (MeetsPageDemand3 mixer)
+unfolding mixer afterCalls refusals.answer numberOf level put atMost allAtMost isRow singles top floorOver lift raise pushOf rankPushes pushes pulsesIn raised fits pushed storeOf wordOf orderFrom K wordAt words vectors vectorsFrom joined select leaves weight total allOf putEach firstRefusing likeFirst isPage takes pageAnswer numberStored groupStored pulsesStored storePageOf
+mixer-refuted meets =
+    let d = meets (two blank four) (two-held blank four new-group four-group) [] in
+    let e : _≡_ {A = ℕ} 0 16 = d .no-page (0 ∷ 0 ∷ []) refl .0 in
+    omega arith
+
+-- one that names the group after the first that refuses
+pub misnamer : PageMachine
+misnamer p ss = let t = storePageOf p ss in record { number = t .number; value = noneStored (t .value .page) (t .value .group + 1) }
+
+pub misnamer-refuted : ¬ (MeetsPageDemand3 misnamer)
+unfolding misnamer afterCalls refusals.answer numberOf level put atMost allAtMost isRow singles top floorOver lift raise pushOf rankPushes pushes pulsesIn raised fits pushed storeOf wordOf orderFrom K wordAt words vectors vectorsFrom joined select leaves weight total allOf putEach firstRefusing likeFirst isPage takes pageAnswer numberStored groupStored pulsesStored storePageOf
+misnamer-refuted =
+    first-fails misnamer []
+    (λ d.
+    let t = d .first-refuses (1 ∷ 1 ∷ []) 1 refl refl (λ e. omega arith) (of-among 0 (λ j. numberStored first-low (1 ∷ 1 ∷ []) j ≡ 0) (λ i l. absurd (omega arith))) in
+    let e : _≡_ {A = ℕ} 2 1 = t .1 in
+    omega arith)
+
+-- one that counts pulses where it is refused
+pub spender : PageMachine
+spender p ss =
+    let t = storePageOf p ss in
+    record { number = t .number; value = record { group = t .value .group; page = t .value .page; pulses = total (p .count) (pulsesStored p ss) } }
+
+pub spender-refuted : ¬ (MeetsPageDemand3 spender)
+unfolding spender afterCalls refusals.answer numberOf level put atMost allAtMost isRow singles top floorOver lift raise pushOf rankPushes pushes pulsesIn raised fits pushed storeOf wordOf orderFrom K wordAt words vectors vectorsFrom joined select leaves weight total allOf putEach firstRefusing likeFirst isPage takes pageAnswer numberStored groupStored pulsesStored storePageOf
+spender-refuted = last-fails spender [] (λ d. let e : _≡_ {A = ℕ} 3 0 = d .refused (1 ∷ 1 ∷ []) (λ e. omega arith) .1 in omega arith)

@@ -25,13 +25,13 @@ use Rattle.plain_machine.specs.Machine.{applyOf}
 use Rattle.plain_machine.proofs.Machine.{accept, apply-number, apply-value}
 use Rattle.rivals.specs.Rivals.{Rival, Moves, latest, after, pulsesOf, Course, rest, next}
 use Rattle.page.specs.declared.Page.{Page}
-use Rattle.page.specs.Groups.{putEach}
+use Rattle.page.specs.Groups.{total, putEach}
 use Rattle.page.specs.Pages.{groupAt}
-use Rattle.page_store.specs.PageStore.{total, symbolAt, takes, StoredPage, numberStored, groupStored, pulsesStored, storedPage, unstored, storePageOf}
-use Rattle.page_store.proofs.PageStore.{store-not}
+use Rattle.page_store.specs.StoreAnswer.{symbolAt, takes, AfterStore, numberStored, groupStored, pulsesStored, allStored, noneStored, storePageOf}
+use Rattle.page_store.proofs.Storing.{store-not}
 use Rattle.page.proofs.Groups.{picked-zeros}
 use Rattle.page.proofs.Pages.{back-one, page-done, page-refused}
-use Rattle.page_laws.specs.PageLists.{PageCall, onGroup, pageStore, pageRead, among, putGroup, isWorn, stands, storeCall, HoldsGroups, pageStep, pagePulses, ownCall}
+use Rattle.page_laws.specs.PageLists.{PageCall, onGroup, storePage, readPage, among, putGroup, isWorn, stands, storeCall, HoldsGroups, pageStep, pagePulses, ownCall}
 use Rattle.page_laws.proofs.Groups.{among-true, among-below, total-same, total-none, total-one, length-put, put-at, FirstAt, none-first, none-or-first}
 
 -- ---- a page of groups has places for them
@@ -53,15 +53,15 @@ room p h = elim (decLt (length (p .groups)) (p .count)) [ yes l ↦ absurd (past
 
 module _ (p : Page) (ss : List ℕ) where
   pub data Answered : Type 0 where
-    no-page : takes p ss ≡ false → storePageOf p ss ≡ record { number = refusalNumber NoPage; value = unstored p 0 } → Answered
-    done : takes p ss ≡ true → ((i : ℕ) → i < p .count → numberStored p ss (suc i) ≡ 0) → storePageOf p ss ≡ record { number = 0; value = storedPage p ss } → Answered
+    no-page : takes p ss ≡ false → storePageOf p ss ≡ record { number = refusalNumber NoPage; value = noneStored p 0 } → Answered
+    done : takes p ss ≡ true → ((i : ℕ) → i < p .count → numberStored p ss (suc i) ≡ 0) → storePageOf p ss ≡ record { number = 0; value = allStored p ss } → Answered
     refused : takes p ss ≡ true → (i : ℕ) → FirstAt (numberStored p ss) (p .count) i
-        → storePageOf p ss ≡ record { number = numberStored p ss (suc i); value = unstored p (suc i) } → Answered
+        → storePageOf p ss ≡ record { number = numberStored p ss (suc i); value = noneStored p (suc i) } → Answered
 
   pub first-refused : takes p ss ≡ true → (i : ℕ) → FirstAt (numberStored p ss) (p .count) i
-      → storePageOf p ss ≡ record { number = numberStored p ss (suc i); value = unstored p (suc i) }
+      → storePageOf p ss ≡ record { number = numberStored p ss (suc i); value = noneStored p (suc i) }
   unfolding storePageOf
-  first-refused e i a = sym (page-refused (takes p ss) (p .count) (numberStored p ss) (storedPage p ss) (unstored p) e i (a .below) (a .before) (a .refuses))
+  first-refused e i a = sym (page-refused (takes p ss) (p .count) (numberStored p ss) (allStored p ss) (noneStored p) e i (a .below) (a .before) (a .refuses))
 
   pub answered : Answered
   unfolding storePageOf
@@ -71,7 +71,7 @@ module _ (p : Page) (ss : List ℕ) where
       go false e = no-page e (sym (store-not p ss e))
       go true e =
           ⊎-elim
-          (λ h. done e h (sym (page-done (takes p ss) (p .count) (numberStored p ss) (storedPage p ss) (unstored p) e (none-first (numberStored p ss) (p .count) h))))
+          (λ h. done e h (sym (page-done (takes p ss) (p .count) (numberStored p ss) (allStored p ss) (noneStored p) e (none-first (numberStored p ss) (p .count) h))))
           (λ t. let (i, a) = t in refused e i a (first-refused e i a))
           (none-or-first (numberStored p ss) (p .count))
 
@@ -93,13 +93,13 @@ step-count p (onGroup k c) = go (among (p .count) k)
     go : (b : Bool) → cond b (putGroup p k (applyOf (groupAt p k) c .value .group)) p .count ≡ p .count
     go true = refl
     go false = refl
-step-count p (pageStore ss) = go (answered p ss)
+step-count p (storePage ss) = go (answered p ss)
   where
     go : Answered p ss → storePageOf p ss .value .page .count ≡ p .count
     go (no-page t e) = rw e
     go (done t h e) = rw e
     go (refused t i h e) = rw e
-step-count p pageRead = refl
+step-count p readPage = refl
 
 pub step-length : (p : Page) (c : PageCall) → length (pageStep storePageOf p c .groups) ≡ length (p .groups)
 unfolding pageStep putGroup
@@ -108,13 +108,13 @@ step-length p (onGroup k c) = go (among (p .count) k)
     go : (b : Bool) → length (cond b (putGroup p k (applyOf (groupAt p k) c .value .group)) p .groups) ≡ length (p .groups)
     go true = length-set (p .groups) (k - 1) _
     go false = refl
-step-length p (pageStore ss) = go (answered p ss)
+step-length p (storePage ss) = go (answered p ss)
   where
     go : Answered p ss → length (storePageOf p ss .value .page .groups) ≡ length (p .groups)
     go (no-page t e) = rw e
     go (done t h e) = rw e (length-put (groupStored p ss) (p .groups) (p .count))
     go (refused t i h e) = rw e
-step-length p pageRead = refl
+step-length p readPage = refl
 
 -- ---- a page store that went through, and one that did not
 
@@ -123,23 +123,23 @@ zero-or zero = inl refl
 zero-or (suc k) = inr (λ e. absurd (omega arith))
 
 module _ (p : Page) (ss : List ℕ) where
-  abbrev told : Told StoredPage
+  abbrev told : Told AfterStore
   told = storePageOf p ss
 
-  pub through : told .number ≡ 0 → (takes p ss ≡ true) × ((i : ℕ) → i < p .count → numberStored p ss (suc i) ≡ 0) × (told .value ≡ storedPage p ss)
+  pub through : told .number ≡ 0 → (takes p ss ≡ true) × ((i : ℕ) → i < p .count → numberStored p ss (suc i) ≡ 0) × (told .value ≡ allStored p ss)
   through z = go (answered p ss)
     where
-      go : Answered p ss → (takes p ss ≡ true) × ((i : ℕ) → i < p .count → numberStored p ss (suc i) ≡ 0) × (told .value ≡ storedPage p ss)
-      go (no-page t e) = absurd (omega (arith, z, ap (λ (t : Told StoredPage). t .number) e))
-      go (done t h e) = (t, h, ap (λ (t : Told StoredPage). t .value) e)
-      go (refused t i h e) = absurd (h .refuses (sym (ap (λ (t : Told StoredPage). t .number) e) ∙ z))
+      go : Answered p ss → (takes p ss ≡ true) × ((i : ℕ) → i < p .count → numberStored p ss (suc i) ≡ 0) × (told .value ≡ allStored p ss)
+      go (no-page t e) = absurd (omega (arith, z, ap (λ (t : Told AfterStore). t .number) e))
+      go (done t h e) = (t, h, ap (λ (t : Told AfterStore). t .value) e)
+      go (refused t i h e) = absurd (h .refuses (sym (ap (λ (t : Told AfterStore). t .number) e) ∙ z))
 
   pub kept : told .number ≢ 0 → (told .value .page ≡ p) × (told .value .pulses ≡ 0)
   kept r = go (answered p ss)
     where
       go : Answered p ss → (told .value .page ≡ p) × (told .value .pulses ≡ 0)
       go (no-page t e) = rw e (refl, refl)
-      go (done t h e) = absurd (r (ap (λ (t : Told StoredPage). t .number) e))
+      go (done t h e) = absurd (r (ap (λ (t : Told AfterStore). t .number) e))
       go (refused t i h e) = rw e (refl, refl)
 
   -- it is refused by group i + 1, the first that refuses
@@ -157,7 +157,7 @@ module _ (p : Page) (ss : List ℕ) where
       go (no-page t e) = absurd (false≢true (rw e at w))
       go (done t h e) = absurd (false≢true (rw e at w))
       go (refused t i h e) =
-          (i, record { taken = t; first = h; named = ap (λ (t : Told StoredPage). t .value .group) e; number = ap (λ (t : Told StoredPage). t .number) e })
+          (i, record { taken = t; first = h; named = ap (λ (t : Told AfterStore). t .value .group) e; number = ap (λ (t : Told AfterStore). t .number) e })
 
   -- that is the number of the store, as a call on the group
   pub worn-store : isWorn (told .number) ≡ true
@@ -166,7 +166,29 @@ module _ (p : Page) (ss : List ℕ) where
       let (i, t) = worn-first w in
       rw (t .named) (among-below (p .count) i (t .first .below), store-call-number p ss (suc i) ∙ sym (t .number))
 
-  through-stands : (k : ℕ) → told .number ≡ 0 → stands told k ≡ true
+  -- ---- in which lists it stands
+
+  pub own-stands : (k : ℕ) → stands told k ≡ true → ownCall storePageOf k p (storePage ss) ≡ storeCall (symbolAt ss k) ∷ []
+  unfolding ownCall
+  own-stands k e = rw e
+
+  pub own-not : (k : ℕ) → stands told k ≡ false → ownCall storePageOf k p (storePage ss) ≡ []
+  unfolding ownCall
+  own-not k e = rw e
+
+  pub worn-stands : isWorn (told .number) ≡ true → stands told (told .value .group) ≡ true
+  unfolding stands
+  worn-stands w = rw (eqb-true (told .number) 8 w) (eq-eqb (told .value .group) (told .value .group) refl)
+
+  pub other-not : isWorn (told .number) ≡ true → (j : ℕ) → j ≢ told .value .group → stands told j ≡ false
+  unfolding stands
+  other-not w j d = rw (eqb-true (told .number) 8 w) (ne-eqb (told .value .group) j (λ e. d (sym e)))
+
+  pub not-stands : told .number ≢ 0 → isWorn (told .number) ≡ false → (k : ℕ) → stands told k ≡ false
+  unfolding stands
+  not-stands r w k = picked-zeros (told .number) true _ r ∙ rw w
+
+  pub through-stands : (k : ℕ) → told .number ≡ 0 → stands told k ≡ true
   unfolding stands
   through-stands k z = rw z
 
@@ -202,7 +224,7 @@ one-stays g q c true r rs z (next {s = s} m rest) = moved-not _ (c .kind) _ r s 
 one-stays g q c false r rs z rest = refl
 
 pub rival-stays : (p : Page) (ss : List ℕ) → storePageOf p ss .number ≢ 0 → (k : ℕ) (q : Group) (r : Rival) (rs : List Rival)
-    → Course applyOf (groupAt p k) q r (ownCall storePageOf k p (pageStore ss)) rs → latest r rs ≡ r
+    → Course applyOf (groupAt p k) q r (ownCall storePageOf k p (storePage ss)) rs → latest r rs ≡ r
 unfolding ownCall
 rival-stays p ss z k q r rs x = one-stays (groupAt p k) q (storeCall (symbolAt ss k)) _ r rs (stands-refused p ss k z) x
 
@@ -232,14 +254,14 @@ module _ (p : Page) where
             getD-set-other (p .groups) (j - 1) (suc i - 1) _ noGroup (λ q. d (omega (arith, low)))
         other d false e = refl
 
-    pub group-stored-by : (ss : List ℕ) (i : ℕ) → i < p .count → groupAt (storedPage p ss .page) (suc i) ≡ storeOf (groupAt p (suc i)) (symbolAt ss (suc i)) .value .group
+    pub group-stored-by : (ss : List ℕ) (i : ℕ) → i < p .count → groupAt (allStored p ss .page) (suc i) ≡ storeOf (groupAt p (suc i)) (symbolAt ss (suc i)) .value .group
     unfolding groupStored
     group-stored-by ss i l =
         ap (λ (k : ℕ). getD (putEach (p .count) (groupStored p ss) (p .groups)) k noGroup) (back-one i)
         ∙ put-at (groupStored p ss) (p .groups) noGroup (p .count) i places l
 
     pub group-stored : (ss : List ℕ) (i : ℕ) → i < p .count
-        → groupAt (storedPage p ss .page) (suc i) ≡ applyOf (groupAt p (suc i)) (storeCall (symbolAt ss (suc i))) .value .group
+        → groupAt (allStored p ss .page) (suc i) ≡ applyOf (groupAt p (suc i)) (storeCall (symbolAt ss (suc i))) .value .group
     unfolding applyOf
     group-stored ss i l = group-stored-by ss i l
 
@@ -247,17 +269,17 @@ module _ (p : Page) where
         → groupAt (pageStep storePageOf p c) (suc i) ≡ after applyOf (groupAt p (suc i)) (ownCall storePageOf (suc i) p c)
     unfolding pageStep ownCall after
     group-step (onGroup j c) i l = on-group j c i l
-    group-step (pageStore ss) i l =
+    group-step (storePage ss) i l =
         ⊎-elim
         (λ z.
-        ap (λ (v : StoredPage). groupAt (v .page) (suc i)) (through p ss z .2)
+        ap (λ (v : AfterStore). groupAt (v .page) (suc i)) (through p ss z .2)
         ∙ group-stored ss i l
         ∙ ap (λ (b : Bool). after applyOf (groupAt p (suc i)) (cond b (storeCall (symbolAt ss (suc i)) ∷ []) [])) (sym (through-stands p ss (suc i) z)))
         (λ r.
         let same = one-refused (groupAt p (suc i)) (storeCall (symbolAt ss (suc i))) _ (stands-refused p ss (suc i) r) .0 in
         ap (λ (q : Page). groupAt q (suc i)) (kept p ss r .0) ∙ sym same)
         (zero-or (storePageOf p ss .number))
-    group-step pageRead i l = refl
+    group-step readPage i l = refl
 
   on-pulses : (j : ℕ) (c : Call) (b : Bool) → among (p .count) j ≡ b
       → cond b (applyOf (groupAt p j) c .value .pulses) 0 ≡ total (p .count) (λ k. pulsesOf applyOf (groupAt p k) (cond (eqb j k) (c ∷ []) []))
@@ -279,13 +301,13 @@ module _ (p : Page) where
   pub pulses-step : (c : PageCall) → pagePulses storePageOf p c ≡ total (p .count) (λ k. pulsesOf applyOf (groupAt p k) (ownCall storePageOf k p c))
   unfolding pagePulses ownCall
   pulses-step (onGroup j c) = on-pulses j c (among (p .count) j) refl
-  pulses-step (pageStore ss) =
+  pulses-step (storePage ss) =
       ⊎-elim
       (λ z.
-      ap (λ (t : StoredPage). t .pulses) (through p ss z .2)
+      ap (λ (t : AfterStore). t .pulses) (through p ss z .2)
       ∙ total-same (pulsesStored p ss) _ (p .count) (λ k l. rw (through-stands p ss (suc k) z) (stored-pulses ss (suc k))))
       (λ r.
       kept p ss r .1
       ∙ sym (total-none _ (p .count) (λ k l. one-refused (groupAt p (suc k)) (storeCall (symbolAt ss (suc k))) _ (stands-refused p ss (suc k) r) .1)))
       (zero-or (storePageOf p ss .number))
-  pulses-step pageRead = sym (total-none _ (p .count) (λ k l. no-calls (groupAt p (suc k))))
+  pulses-step readPage = sym (total-none _ (p .count) (λ k l. no-calls (groupAt p (suc k))))

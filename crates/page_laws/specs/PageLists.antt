@@ -1,21 +1,23 @@
 -- Document 02, "A page of groups", and demand 3 (document 01, "The rivals of demand 3"): each group of a page has a list of calls of its own.
--- The claim is about any page store. That ours meets it is the theorem `page-demand3` (proofs/PageDemand3) about `storePageOf`, which is the whole
--- answer of the public function `store_page` by its contract.
+-- The claim is about any machine that answers page stores. That ours meets it is the theorem `page-demand3` (proofs/PageDemand3) about `storePageOf`,
+-- which is the whole answer of the public function `store_page` by its contract. It leaves open nothing of what it speaks of (proofs/Determined); to the
+-- contracts alone it leaves pages with a record that is no group, what stands in a page after its groups, that an accepted page store names group 0, and
+-- the page read.
 --
 --   PageCall            a call on a page: one of the plain machine's on group k alone, a page store of these symbols, or a page read
---   PageStore           the claim is about it: it answers a page store
+--   PageMachine         the claim is about it: it answers a page store
 --   among n k           k is one of 1, 2, .., n
 --   putGroup p k g      the page with g as its group k
 --   isWorn number       the number of a store that is refused as worn
 --   stands t k          a page store with the answer t stands in the list of group k: it went through, or it is refused as worn and names group k
 --   storeCall s         the store of a symbol, as a call on one group
---   pageStep, pagePulses    the page after a call, and the pulses of its answer. A call on a group that the page does not have changes nothing
---   ownCall k p c       what the call c on the page p is in the list of group k: one call, or none. A page read stands in no list
---   afterCalls, pulsesOfCalls    the page after the calls, each handed the page as the call before left it, and what their answers add up to
---   callsOf k p cs      the list of group k, where the page p has had the calls cs
 --   HoldsGroups p       each of the page's groups is a group
 --   OpenedPage n p      a freshly opened page: 1 to 8 groups, each as an accepted open of n cells returns it
---   PageDemand3 p cs    what is claimed of a page store, of the page p that has had the calls cs
+--   pageStep, pagePulses    the page after a call, and the pulses of its answer. A call on a group that the page does not have changes nothing
+--   ownCall k p c       what the call c on the page p is in the list of group k: one call, or none. A page read, which changes nothing, is none
+--   afterCalls, pulsesOfCalls    the page after the calls, each handed the page as the call before left it, and what their answers add up to
+--   callsOf k p cs      the list of group k, where the page p has had the calls cs
+--   PageDemand3 p cs    what is claimed of such a machine, of the page p that has had the calls cs
 --   MeetsPageDemand3    the whole: of every page of groups and every list of calls
 use Prim.Native.Nat.{ℕ, _+_, _-_, _≤_}
 use mathlib.Core.Path.{_≡_}
@@ -35,16 +37,17 @@ use Rattle.plain_machine.specs.declared.Call.{Call}
 use Rattle.plain_machine.specs.Machine.{target, earlierChecks, applyOf}
 use Rattle.rivals.specs.Rivals.{Rival, latest, after, pulsesOf, Course, plain, Raisable, Demand3}
 use Rattle.page.specs.declared.Page.{Page}
+use Rattle.page.specs.Groups.{total}
 use Rattle.page.specs.Pages.{groupAt}
-use Rattle.page_store.specs.PageStore.{total, symbolAt, takes, numberStored, StoredPage}
+use Rattle.page_store.specs.StoreAnswer.{symbolAt, takes, numberStored, AfterStore}
 
 pub data PageCall : Type 0 where
   onGroup : ℕ → Call → PageCall
-  pageStore : List ℕ → PageCall
-  pageRead : PageCall
+  storePage : List ℕ → PageCall
+  readPage : PageCall
 
-abbrev pub PageStore : Type 0
-PageStore = Page → List ℕ → Told StoredPage
+abbrev pub PageMachine : Type 0
+PageMachine = Page → List ℕ → Told AfterStore
 
 abbrev pub among : ℕ → ℕ → Bool
 among n k = leb 1 k && leb k n
@@ -55,7 +58,7 @@ putGroup p k g = record { count = p .count; groups = set (p .groups) (k - 1) g }
 abbrev pub isWorn : ℕ → Bool
 isWorn number = eqb number 8
 
-unfoldable pub stands : Told StoredPage → ℕ → Bool
+unfoldable pub stands : Told AfterStore → ℕ → Bool
 stands t k = ifDone (t .number) true (isWorn (t .number) && eqb (t .value .group) k)
 
 abbrev pub storeCall : ℕ → Call
@@ -70,21 +73,21 @@ pub record OpenedPage (n : ℕ) (p : Page) : Type 0 where
   pub most : p .count ≤ 8
   pub groups : (k : ℕ) → among (p .count) k ≡ true → groupAt p k ≡ openOf n .value
 
-module _ (store : PageStore) where
+module _ (store : PageMachine) where
   unfoldable pub pageStep : Page → PageCall → Page
   pageStep p (onGroup k c) = cond (among (p .count) k) (putGroup p k (applyOf (groupAt p k) c .value .group)) p
-  pageStep p (pageStore ss) = store p ss .value .page
-  pageStep p pageRead = p
+  pageStep p (storePage ss) = store p ss .value .page
+  pageStep p readPage = p
 
   unfoldable pub pagePulses : Page → PageCall → ℕ
   pagePulses p (onGroup k c) = cond (among (p .count) k) (applyOf (groupAt p k) c .value .pulses) 0
-  pagePulses p (pageStore ss) = store p ss .value .pulses
-  pagePulses p pageRead = 0
+  pagePulses p (storePage ss) = store p ss .value .pulses
+  pagePulses p readPage = 0
 
   unfoldable pub ownCall : ℕ → Page → PageCall → List Call
   ownCall k p (onGroup j c) = cond (eqb j k) (c ∷ []) []
-  ownCall k p (pageStore ss) = cond (stands (store p ss) k) (storeCall (symbolAt ss k) ∷ []) []
-  ownCall k p pageRead = []
+  ownCall k p (storePage ss) = cond (stands (store p ss) k) (storeCall (symbolAt ss k) ∷ []) []
+  ownCall k p readPage = []
 
   unfoldable pub afterCalls : Page → List PageCall → Page
   afterCalls p [] = p
@@ -107,16 +110,19 @@ module _ (store : PageStore) where
     pub pulses : pulsesOfCalls p cs ≡ total (p .count) (λ k. pulsesOf applyOf (groupAt p k) (callsOf k p cs))
     -- demand 3 holds of each group with its own list
     pub demand3 : (k : ℕ) → among (p .count) k ≡ true → Demand3 applyOf (groupAt p k) (callsOf k p cs)
-    -- a page store that comes next goes through exactly when there is one symbol a group and no group refuses its own
+    -- a page store that comes next goes through exactly when there is one symbol a group of a page and no group refuses its own
     pub accepted : (ss : List ℕ) → let now = afterCalls p cs in
         (store now ss .number ≡ 0) ↔ ((takes now ss ≡ true) × ((k : ℕ) → among (p .count) k ≡ true → numberStored now ss k ≡ 0))
     -- it is then one more accepted store in the list of each group, with the group's own rises as the pulses of that answer
     pub went-through : (ss : List ℕ) → let now = afterCalls p cs in
-        store now ss .number ≡ 0 → (k : ℕ) → among (p .count) k ≡ true → let answer = applyOf (groupAt now k) (storeCall (symbolAt ss k)) in
-        (answer .number ≡ 0) × (answer .value .pulses ≡ rises (groupAt now k .levels) (groupAt (store now ss .value .page) k .levels))
-    -- without one symbol a group it is refused 16, and names none
+        store now ss .number ≡ 0 → (k : ℕ) → among (p .count) k ≡ true
+        → let c = storeCall (symbolAt ss k) in let answer = applyOf (groupAt now k) c in
+        (ownCall k now (storePage ss) ≡ c ∷ [])
+        × (answer .number ≡ 0)
+        × (answer .value .pulses ≡ rises (groupAt now k .levels) (groupAt (store now ss .value .page) k .levels))
+    -- where it is no page, or there is not one symbol a group, it is refused 16 and names none
     pub no-page : (ss : List ℕ) → let now = afterCalls p cs in takes now ss ≡ false → (store now ss .number ≡ 16) × (store now ss .value .group ≡ 0)
-    -- with one it is refused by group k, with that group's own number, where that refuses and none before it does
+    -- else group k refuses it, with that group's own number, where that one refuses its own and none before it does
     pub first-refuses : (ss : List ℕ) (k : ℕ) → let now = afterCalls p cs in
         takes now ss ≡ true → among (p .count) k ≡ true → numberStored now ss k ≢ 0 → ((j : ℕ) → among (k - 1) j ≡ true → numberStored now ss j ≡ 0)
         → (store now ss .number ≡ numberStored now ss k) × (store now ss .value .group ≡ k)
@@ -126,11 +132,18 @@ module _ (store : PageStore) where
     -- and it leaves all rivals unchanged: whatever it is in the list of group k, a rival of that group stays where it stands
     pub rivals-stay : (ss : List ℕ) → let now = afterCalls p cs in
         store now ss .number ≢ 0 → (k : ℕ) → among (p .count) k ≡ true → (q : Group) (r : Rival) (rs : List Rival)
-        → Course applyOf (groupAt now k) q r (ownCall k now (pageStore ss)) rs → latest r rs ≡ r
-    -- refused as worn, it is a worn store in the list of the group that it names
-    pub worn-named : (ss : List ℕ) → let now = afterCalls p cs in let k = store now ss .value .group in
-        isWorn (store now ss .number) ≡ true → (among (p .count) k ≡ true) × (applyOf (groupAt now k) (storeCall (symbolAt ss k)) .number ≡ store now ss .number)
-    -- it is refused as worn with group k exactly when there is one symbol a group, no group before k refuses its own, group k passes the
+        → Course applyOf (groupAt now k) q r (ownCall k now (storePage ss)) rs → latest r rs ≡ r
+    -- refused as worn, it is a worn store in the list of the group that it names, and in that list alone
+    pub worn-named : (ss : List ℕ) → let now = afterCalls p cs in let k = store now ss .value .group in let c = storeCall (symbolAt ss k) in
+        isWorn (store now ss .number) ≡ true
+        → (among (p .count) k ≡ true)
+        × (ownCall k now (storePage ss) ≡ c ∷ [])
+        × (applyOf (groupAt now k) c .number ≡ store now ss .number)
+        × ((j : ℕ) → j ≢ k → ownCall j now (storePage ss) ≡ [])
+    -- refused otherwise, it stands in no list
+    pub in-no-list : (ss : List ℕ) → let now = afterCalls p cs in
+        store now ss .number ≢ 0 → isWorn (store now ss .number) ≡ false → (k : ℕ) → ownCall k now (storePage ss) ≡ []
+    -- it is refused as worn with group k exactly when there is one symbol a group of a page, no group before k refuses its own, group k passes the
     -- earlier checks, and no rival of group k so far can be raised to show the symbol's codeword within the caps
     pub worn-exactly : (ss : List ℕ) (k : ℕ)
         → let now = afterCalls p cs in let g = groupAt p k in let own = callsOf k p cs in let c = storeCall (symbolAt ss k) in

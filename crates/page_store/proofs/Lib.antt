@@ -1,4 +1,4 @@
 pub mod Pulses
-pub mod PageStore
+pub mod Storing
 pub mod Told
 pub mod Row

@@ -1,1 +1,1 @@
-pub mod PageStore
+pub mod StoreAnswer

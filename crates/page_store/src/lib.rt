@@ -7,9 +7,9 @@ use page::Page;
 ghost use mathlib.Core.Path.{_≡_};
 ghost use mathlib.Core.Bool.{true};
 ghost use Rattle.order.specs.Refusals.{outcomeNumber};
-ghost use Rattle.page_store.specs.PageStore.{takes, toldStored, unstored, storePageOf};
+ghost use Rattle.page_store.specs.StoreAnswer.{takes, toldStored, noneStored, storePageOf};
 
-// The answer of a page store. Its group is the first that refuses, 0 where none does or the whole is no page.
+// The answer of a page store. Its group is the first that refuses, 0 where none does, it is no page or there is not one symbol a group.
 pub struct PageStored {
     pub outcome: Outcome,
     pub group: usize,
@@ -38,18 +38,18 @@ fn store_each(page: Page, symbols: &[u32]) -> PageStored
     let count = page.count;
     let mut groups = page.groups;
     let mut pulses: u32 = 0;
-    let mut k = 0;
-    while k < count {
-        let g = page.groups[k];
-        let written = engine::store(g, symbols[k]);
+    let mut i = 0;
+    while i < count {
+        let g = page.groups[i];
+        let written = engine::store(g, symbols[i]);
         let outcome = written.outcome;
         let Outcome::Done = outcome else {
-            return store_refused(outcome, k + 1, page);
+            return store_refused(outcome, i + 1, page);
         };
         let stored = written.group;
-        groups[k] = stored;
+        groups[i] = stored;
         pulses += written.pulses;
-        k += 1;
+        i += 1;
     }
     PageStored {
         outcome: Outcome::Done,
@@ -59,9 +59,9 @@ fn store_each(page: Page, symbols: &[u32]) -> PageStored
     }
 }
 
-// The answer of a page store that is refused at a group: the page as it was.
+// The answer of a page store that is refused, and names this group, or 0: the page as it was.
 fn store_refused(outcome: Outcome, group: usize, page: Page) -> PageStored
-    ensures { λ r. ⌜ toldStored r ≡ record { number = outcomeNumber outcome; value = unstored page group } ⌝ }
+    ensures { λ r. ⌜ toldStored r ≡ record { number = outcomeNumber outcome; value = noneStored page group } ⌝ }
 {
     PageStored {
         outcome,

@@ -1,4 +1,4 @@
--- `page::is_page` meets its contract. The loop's invariant: the first `k` groups have the first one's n.
+-- `page::is_page` meets its contract. The loop's invariant: the first `i` groups have the first one's n.
 -- Assumes nothing.
 use borrow.Author.Needs.{needs}
 use Prim.Native.Nat.{_-_}
@@ -16,10 +16,10 @@ abbrev outside : Group
 outside = record { n = 0; levels = []; caps = []; written = false }
 
 abbrev Inv-loop : tie.InvT-loop
-Inv-loop page count first k₀ k = LikeTo page k
+Inv-loop page first i₀ i = LikeTo page i
 
 abbrev μ-loop : tie.MeasureT-loop
-μ-loop page count first k₀ k = count - k
+μ-loop page first i₀ i = page .count - i
 
 returns : tie.Need-returns Inv-loop μ-loop
 returns c = page-low _ (omega arith)
@@ -42,8 +42,8 @@ element-copy-out-if3 c = search needs
 returns-3 : tie.Need-returns-3 Inv-loop μ-loop
 returns-3 c = like-not (c .before .before .loop .inv) outside (omega arith) (λ e. absurd (omega arith))
 
-add-k : tie.Need-add-k Inv-loop μ-loop
-add-k c = search needs
+add-i : tie.Need-add-i Inv-loop μ-loop
+add-i c = search needs
 
 loop-less : tie.Need-loop-less Inv-loop μ-loop
 loop-less c = search needs
@@ -67,7 +67,7 @@ is-page-spec =
     mul-if3
     element-copy-out-if3
     returns-3
-    add-k
+    add-i
     loop-less
     loop-again
     returns-4)

@@ -1,4 +1,4 @@
--- `page_store::store_each` meets its contract. The loop's invariant: the first `k` groups are stored to in the copy, and none of them refused.
+-- `page_store::store_each` meets its contract. The loop's invariant: the first `i` groups are stored to in the copy, and none of them refused.
 -- Assumes nothing.
 use borrow.Author.Needs.{needs}
 use Prim.Native.Nat.{_-_}
@@ -6,15 +6,15 @@ use native.Mathlib.Omega.{arith}
 use mathlib.Core.Path.{_≡_, refl, _∙_}
 use lib.ListN.{length}
 use Rattle.order.proofs.Numbers.{length-mapped}
-use Rattle.page_store.proofs.PageStore.{StoredTo, store-start, pulses-low, store-more, store-refused-at, store-end}
+use Rattle.page_store.proofs.Storing.{StoredTo, store-start, pulses-low, store-more, store-refused-at, store-end}
 use Rattle.page_store.proofs.store_each.Statement.{statement}
 use Rattle.page_store.proofs.store_each.Tie as tie
 
 abbrev Inv-loop : tie.InvT-loop
-Inv-loop symbols page count groups₀ pulses₀ k₀ groups pulses k = StoredTo page symbols groups pulses k
+Inv-loop symbols page count groups₀ pulses₀ i₀ groups pulses i = StoredTo page symbols groups pulses i
 
 abbrev μ-loop : tie.MeasureT-loop
-μ-loop symbols page count groups₀ pulses₀ k₀ groups pulses k = count - k
+μ-loop symbols page count groups₀ pulses₀ i₀ groups pulses i = count - i
 
 loop-holds : tie.Need-loop-holds Inv-loop μ-loop
 loop-holds c = store-start (search length-mapped) (c .before .before .pre)
@@ -68,8 +68,8 @@ add-pulses c =
     let l = a .before .before .before in
     omega (arith, pulses-low (l .before .loop .inv) (omega arith) (a .store .result) _ (a .store .ensures) (twelve c))
 
-add-k : tie.Need-add-k Inv-loop μ-loop
-add-k c = search needs
+add-i : tie.Need-add-i Inv-loop μ-loop
+add-i c = search needs
 
 loop-less : tie.Need-loop-less Inv-loop μ-loop
 loop-less c = search needs
@@ -103,7 +103,7 @@ store-each-spec =
     mul-groups
     array-set-from-groups
     add-pulses
-    add-k
+    add-i
     loop-less
     loop-again
     returns-2)

@@ -4,7 +4,7 @@ use borrow.Author.Needs.{needs}
 use borrow.Author.Tests.{not-true, not-false}
 use native.Mathlib.Omega.{arith}
 use mathlib.Core.Path.{sym, _∙_}
-use Rattle.page_store.proofs.PageStore.{store-not, not-taken, other-length, is-taken}
+use Rattle.page_store.proofs.Storing.{store-not, not-taken, other-length, is-taken}
 use Rattle.page_store.proofs.store_page.Statement.{statement}
 use Rattle.page_store.proofs.store_page.Tie as tie
 

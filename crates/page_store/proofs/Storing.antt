@@ -20,11 +20,11 @@ use Rattle.push_up.specs.declared.Written.{Written}
 use Rattle.push_up.specs.WriteAnswer.{Program, toldWritten}
 use Rattle.engine.specs.ReadStore.{storeOf}
 use Rattle.page.specs.declared.Page.{Page}
-use Rattle.page.specs.Groups.{putEach, firstRefusing}
+use Rattle.page.specs.Groups.{total, putEach, firstRefusing}
 use Rattle.page.specs.Pages.{groupAt, isPage}
 use Rattle.page.proofs.Groups.{none-next}
 use Rattle.page.proofs.Pages.{back-one, group-at, page-not, page-done, page-refused, page-most}
-use Rattle.page_store.specs.PageStore.{total, symbolAt, takes, numberStored, groupStored, pulsesStored, storedPage, unstored, storePageOf}
+use Rattle.page_store.specs.StoreAnswer.{symbolAt, takes, numberStored, groupStored, pulsesStored, allStored, noneStored, storePageOf}
 use Rattle.page_store.proofs.Pulses.{store-pulses}
 
 pub symbol-at : (ss : List ℕ) (k : ℕ) → getD ss k 0 ≡ symbolAt ss (suc k)
@@ -93,11 +93,11 @@ module _ {p : Page} {ss : List ℕ} {groups : List Group} {pulses k : ℕ} (h : 
         }
 
     pub store-refused-at : {r : Refusal} → a .outcome ≡ Refused r → (q : Page) (named : ℕ) → q ≡ p → named ≡ k + 1
-        → record { number = outcomeNumber (a .outcome); value = unstored q named } ≡ storePageOf p ss
+        → record { number = outcomeNumber (a .outcome); value = noneStored q named } ≡ storePageOf p ss
     unfolding storePageOf
     store-refused-at {r} o q named same one =
         rw (same, one, add-one k, ← store-number)
-        (page-refused (takes p ss) (p .count) (numberStored p ss) (storedPage p ss) (unstored p) (h .is-taken) k l (h .none)
+        (page-refused (takes p ss) (p .count) (numberStored p ss) (allStored p ss) (noneStored p) (h .is-taken) k l (h .none)
         (λ z. not-zero r (sym (store-number ∙ ap outcomeNumber o) ∙ z)))
 
   pub store-end : p .count ≤ k
@@ -105,13 +105,13 @@ module _ {p : Page} {ss : List ℕ} {groups : List Group} {pulses k : ℕ} (h : 
   unfolding storePageOf
   store-end m =
       let e : k ≡ p .count = omega (arith, h .within) in
-      rw (h .held, h .sum, e) (page-done (takes p ss) (p .count) (numberStored p ss) (storedPage p ss) (unstored p) (h .is-taken) (rw e at (h .none)))
+      rw (h .held, h .sum, e) (page-done (takes p ss) (p .count) (numberStored p ss) (allStored p ss) (noneStored p) (h .is-taken) (rw e at (h .none)))
 
 -- ---- a record that is no page, or symbols for another
 
-pub store-not : (p : Page) (ss : List ℕ) → takes p ss ≡ false → record { number = refusalNumber NoPage; value = unstored p 0 } ≡ storePageOf p ss
+pub store-not : (p : Page) (ss : List ℕ) → takes p ss ≡ false → record { number = refusalNumber NoPage; value = noneStored p 0 } ≡ storePageOf p ss
 unfolding storePageOf
-store-not p ss e = page-not (takes p ss) (p .count) (numberStored p ss) (storedPage p ss) (unstored p) e
+store-not p ss e = page-not (takes p ss) (p .count) (numberStored p ss) (allStored p ss) (noneStored p) e
 
 pub not-taken : (p : Page) (ss : List ℕ) → isPage p ≡ false → takes p ss ≡ false
 unfolding takes
