@@ -10,9 +10,10 @@ pub struct Report {
     pub parts: u64,
 }
 
+// Room for all 27 numbers, with counts of ten digits.
 struct Line {
     len: usize,
-    text: [u8; 320],
+    text: [u8; 512],
 }
 
 pub fn empty() -> Report {
@@ -27,7 +28,7 @@ fn with_bytes(l: Line, bytes: &[u8]) -> Line {
     let mut next = l;
     for i in 0..bytes.len() {
         let at = next.len;
-        if at < 320 {
+        if at < 512 {
             next.text[at] = bytes[i];
             next.len = at + 1;
         }
@@ -43,9 +44,9 @@ fn with_number(l: Line, bytes: &[u8], x: u64) -> Line {
 }
 
 // How many answers had each number, where there are any.
-fn with_given(l: Line, given: [u64; 16]) -> Line {
+fn with_given(l: Line, given: [u64; 27]) -> Line {
     let mut next = with_number(l, b"; 0: ", given[0]);
-    for k in 1..16 {
+    for k in 1..27 {
         if given[k] != 0 {
             next = with_number(with_number(next, b", ", k as u64), b": ", given[k]);
         }
@@ -57,7 +58,7 @@ fn with_given(l: Line, given: [u64; 16]) -> Line {
 fn print(name: &[u8], n: u64, t: Tally) {
     let empty = Line {
         len: 0,
-        text: [0; 320],
+        text: [0; 512],
     };
     let a = with_number(with_number(empty, name, n), b": ", t.made);
     let b = with_bytes(with_number(a, b" compared, ", t.differed), b" differed");
@@ -67,7 +68,7 @@ fn print(name: &[u8], n: u64, t: Tally) {
     print_array(&text, c.len);
 }
 
-fn print_array(text: &[u8; 320], len: usize) {
+fn print_array(text: &[u8; 512], len: usize) {
     print_front(text, len);
 }
 

@@ -108,7 +108,7 @@ fn pushes(a: [Push; 11], b: [Push; 11]) -> bool {
     true
 }
 
-fn groups(a: Group, b: Group) -> bool {
+pub fn groups(a: Group, b: Group) -> bool {
     let levels = a.levels;
     let other_levels = b.levels;
     if !rows(levels, other_levels) {

@@ -50,7 +50,7 @@ pub fn below(m: usize, sequence: usize, k: usize) -> usize {
     if m == 0 { 0 } else { noise(sequence, k) % m }
 }
 
-fn below32(m: usize, sequence: usize, k: usize) -> u32 {
+pub fn below32(m: usize, sequence: usize, k: usize) -> u32 {
     let x = below(m, sequence, k);
     if x < 4294967296 { x as u32 } else { 0 }
 }
@@ -274,18 +274,23 @@ fn kind(g: Group, s: usize) -> Kind {
     Kind::Wear(c, cap(g, c, s))
 }
 
-// A symbol of n cells, or one just past the last, or any number: there are n! / (2n - 1) words, or one more.
-pub fn symbol(n: usize, s: usize) -> u32 {
-    if below(16, s, 84) == 0 {
-        return below32(4294967296, s, 85);
-    }
+// n! / (2n - 1), cut: n cells have so many words, or one more.
+pub fn words(n: usize) -> usize {
     if n < 1 {
         return 0;
     }
     if n < 13 {
-        return below32(add(ORDERS[n] / (2 * n - 1), 3), s, 86);
+        return ORDERS[n] / (2 * n - 1);
     }
     0
+}
+
+// A symbol of n cells, or one just past the last, or any number.
+pub fn symbol(n: usize, s: usize) -> u32 {
+    if below(16, s, 84) == 0 {
+        return below32(4294967296, s, 85);
+    }
+    below32(add(words(n), 3), s, 86)
 }
 
 // How much a leak takes: little, or up to any number.

@@ -1,17 +1,18 @@
-// How many comparisons were made, how many differed, and how many of the naive answers had each number of the refusal table.
+// How many comparisons were made, how many differed, and how many of the naive answers had each number of the refusal table: 0 to 26, the
+// highest of document 02.
 use naive::numbers::wide;
 
 pub struct Tally {
     pub made: u64,
     pub differed: u64,
-    pub given: [u64; 16],
+    pub given: [u64; 27],
 }
 
 pub fn none() -> Tally {
     Tally {
         made: 0,
         differed: 0,
-        given: [0; 16],
+        given: [0; 27],
     }
 }
 
@@ -23,7 +24,7 @@ pub fn noted(t: Tally, number: u8, same: bool) -> Tally {
         next.differed = std::num::wrapping_add_u64(t.differed, 1);
     }
     let k = wide(number);
-    if k < 16 {
+    if k < 27 {
         next.given[k] = std::num::wrapping_add_u64(t.given[k], 1);
     }
     next
@@ -33,9 +34,9 @@ pub fn sum(a: Tally, b: Tally) -> Tally {
     let mut c = Tally {
         made: std::num::wrapping_add_u64(a.made, b.made),
         differed: std::num::wrapping_add_u64(a.differed, b.differed),
-        given: [0; 16],
+        given: [0; 27],
     };
-    for k in 0..16 {
+    for k in 0..27 {
         c.given[k] = std::num::wrapping_add_u64(a.given[k], b.given[k]);
     }
     c

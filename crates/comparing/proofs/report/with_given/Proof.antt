@@ -9,7 +9,7 @@ abbrev Inv-loop : tie.InvT-loop
 Inv-loop given next₀ k₀ t7 t8 next k = Unit {0}
 
 abbrev μ-loop : tie.MeasureT-loop
-μ-loop given next₀ k₀ t7 t8 next k = 16 - k
+μ-loop given next₀ k₀ t7 t8 next k = 27 - k
 
 pub with-given-spec : {M : Type 1} → statement M
 with-given-spec =

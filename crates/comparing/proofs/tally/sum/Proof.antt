@@ -9,7 +9,7 @@ abbrev Inv-loop : tie.InvT-loop
 Inv-loop a b c₀ k₀ c k = Unit {0}
 
 abbrev μ-loop : tie.MeasureT-loop
-μ-loop a b c₀ k₀ c k = 16 - k
+μ-loop a b c₀ k₀ c k = 27 - k
 
 pub sum-spec : {M : Type 1} → statement M
 sum-spec =
