@@ -33,7 +33,7 @@ fn record(n: usize, s: usize) -> Group {
 }
 
 // The group changed: blank; lost, which no order of 3 cells is; worn; with a level above 4,095; with a cap past n, or of 12 cells one above 4,095;
-// with no cells; with ten cells more.
+// with no cells; with ten cells more; or, in the ninth way, to be put right when it is read.
 fn changed(g: Group, way: usize) -> Group {
     let n = g.n;
     let mut h = g;
@@ -66,18 +66,23 @@ fn changed(g: Group, way: usize) -> Group {
     if way == 7 {
         h.n = add(n, 10);
     }
+    if way == 9 {
+        let near = sample::exchanged(sample::word(n, 0), n, 0);
+        let written = naive_calls::machine::write(g, near);
+        return written.group;
+    }
     h
 }
 
-// How place j is spoiled in case k: one of the eight places in the way of the case; in the second half the last group, at index k % 8, in another
-// way, which goes round with n; else not.
+// How place j is spoiled in case k: one of the eight places in the way of the case, 0 to 9; in the second half the last group, at index k % 8, in
+// another way, which goes round with n; else not, as in way 0.
 fn way(n: usize, k: usize, j: usize) -> usize {
     if k / 8 % 8 == j {
-        return k / 64 % 9;
+        return k / 64 % 10;
     }
-    if 576 <= k {
+    if 640 <= k {
         if k % 8 == j {
-            return add(k / 64, n) % 9;
+            return add(k / 64, n % 9 + 1) % 10;
         }
     }
     0
@@ -102,15 +107,15 @@ fn made(n: usize, many: usize, k: usize) -> Case {
     Case { groups, places }
 }
 
-// 3 to 8 cells, all cases; 9 to 12 cells, every ninth.
+// 3 to 8 cells, all 1,280 cases; 9 to 12 cells, a fifth of them, in which each refusal comes from seven of the eight groups or all.
 pub fn refusing() -> Tally {
     let mut t = none();
-    for i in 0..7424 {
-        let mut n = 3 + i / 1152;
-        let mut k = i % 1152;
-        if 6912 <= i {
-            n = 9 + (i - 6912) / 128;
-            k = (i - 6912) % 128 * 9;
+    for i in 0..8704 {
+        let mut n = 3 + i / 1280;
+        let mut k = i % 1280;
+        if 7680 <= i {
+            n = 9 + (i - 7680) / 256;
+            k = (i - 7680) % 256 * 437 % 1280;
         }
         let count = k % 8 + 1;
         t = compared(t, made(n, count, k), count, count);

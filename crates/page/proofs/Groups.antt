@@ -10,8 +10,8 @@ use Rattle.order.specs.Refusals.{ifDone}
 use Rattle.page.specs.Groups.{allOf, firstRefusing}
 
 -- below n + 1 is below n or n
-pub last-or : (k n : ℕ) → k < suc n → (k < n) ⊎ (k ≡ n)
-last-or k n l = elim (decLt k n) [ yes h ↦ inl h | no h ↦ inr (omega arith) ]
+pub below-or-last : (k n : ℕ) → k < suc n → (k < n) ⊎ (k ≡ n)
+below-or-last k n l = elim (decLt k n) [ yes h ↦ inl h | no h ↦ inr (omega arith) ]
 
 module _ (test : ℕ → Bool) where
   pub all-but : (n k : ℕ) → k < n → test (suc k) ≡ false → allOf n test ≡ false
@@ -21,7 +21,7 @@ module _ (test : ℕ → Bool) where
       ⊎-elim
       (λ m. rw (all-but n k m e))
       (λ d. rw (← d, e) (and-false (allOf k test)))
-      (last-or k n l)
+      (below-or-last k n l)
 
 -- ---- the first group that refuses
 
@@ -44,4 +44,4 @@ module _ (number : ℕ → ℕ) where
       ⊎-elim
       (λ m. rw (first-at n k m e r))
       (λ d. rw (← d, e) (picked-zeros (number (suc k)) 0 (suc k) r))
-      (last-or k n l)
+      (below-or-last k n l)

@@ -60,6 +60,7 @@ module _ {A : Type 0} (b : Bool) (n : ℕ) (number : ℕ → ℕ) (result : A) (
 
 -- ---- whether a record is a page
 
+-- the first k groups have the n of group 1
 pub record LikeTo (p : Page) (k : ℕ) : Type 0 where
   pub long : length (p .groups) ≡ 8
   pub least : 1 ≤ p .count
@@ -113,6 +114,7 @@ page-most p e = leb-true (p .count) 8 (both (leb (p .count) 8) _ (both (leb 1 (p
 
 -- ---- page read
 
+-- the first k groups are read, and none of them refused
 pub record ReadTo (p : Page) (symbols : List ℕ) (k : ℕ) : Type 0 where
   pub is-page : isPage p ≡ true
   pub long : length (p .groups) ≡ 8

@@ -1,4 +1,4 @@
--- What pages of groups of three cells answer, about the definitions of the two calls, and the groups' own lists after some calls, in the records of the
+-- What pages of groups of three and four cells answer, about the definitions of the two calls, and the groups' own lists after some calls, in the records of the
 -- table of starred cases (rivals, specs Starred).
 -- Assumes nothing.
 use Prim.Native.Nat.{ℕ}
@@ -65,7 +65,7 @@ nine = record { count = 9; groups = places 8 noGroup [] }
 -- stored in both groups, and read from both
 -- refused as worn by the second group, and by the first, though the second is no group; refused 5 by the first, though the second is worn
 -- read: the second is blank, the second is lost, the first is blank though the second is no group
--- 16: another n in the second; no cells in the second; a symbol too few, and one too many; no group at all, and nine, stored and read
+-- 16: another n in the second; no cells in the second; a symbol too few, and one too many; stored to no group at all, and read from nine
 -- no cells in both is 1, group 1
 pub pages-answer :
     (storePageOf (page (blank ∷ blank ∷ [])) (1 ∷ 0 ∷ []) ≡ done (record { group = 0; page = both; pulses = 6 }))

@@ -20,7 +20,7 @@ use Rattle.page.specs.Groups.{allOf}
 use Rattle.page.specs.Pages.{groupAt, likeFirst, isPage}
 use Rattle.page_store.specs.StoreAnswer.{symbolAt, takes, numberStored, AfterStore, storePageOf}
 use Rattle.page_laws.specs.PageLists.{PageCall, onGroup, storePage, readPage, PageMachine, among, isWorn, stands, HoldsGroups, pageStep, ownCall, afterCalls, pulsesOfCalls, callsOf, PageDemand3, MeetsPageDemand3}
-use Rattle.page_laws.proofs.Groups.{among-below, of-among, all-same, total-same, FirstAt, first-none}
+use Rattle.page_laws.proofs.Groups.{among-below, of-among, all-same, total-same, FirstAt, first-not}
 use Rattle.page_laws.proofs.Steps.{Answered, no-page, done, refused, answered}
 use Rattle.page_laws.proofs.PageDemand3.{page-claim}
 use Rattle.page_laws.proofs.Holds.{holds-after}
@@ -31,9 +31,6 @@ pub record SameGroups (p q : Page) : Type 0 where
   pub groups : (k : ℕ) → among (q .count) k ≡ true → groupAt p k ≡ groupAt q k
 
 module _ {p q : Page} (s : SameGroups p q) where
-  group-same : (i : ℕ) → i < q .count → groupAt p (suc i) ≡ groupAt q (suc i)
-  group-same i l = s .groups (suc i) (among-below (q .count) i l)
-
   holds-same : HoldsGroups q → HoldsGroups p
   holds-same h = rw (s .count) (λ k e. rw (s .groups k e) (h k e))
 
@@ -41,7 +38,7 @@ module _ {p q : Page} (s : SameGroups p q) where
   unfolding isPage likeFirst
   page-same =
       rw (s .count)
-      (go (q .count) (λ i l. group-same i l))
+      (go (q .count) (λ i l. s .groups (suc i) (among-below (q .count) i l)))
     where
       go : (c : ℕ) → ((i : ℕ) → i < c → groupAt p (suc i) ≡ groupAt q (suc i))
           → (leb 1 c && (leb c 8 && allOf c (likeFirst p))) ≡ (leb 1 c && (leb c 8 && allOf c (likeFirst q)))
@@ -75,7 +72,7 @@ module _ (store : PageMachine) (meets : MeetsPageDemand3 store) where
         of-among (suc i - 1) (λ j. numberStored p ss j ≡ 0)
         (λ j l.
         let m : j < i = omega arith in
-        number-same s ss (suc j) (among-below (q .count) j (omega (arith, a .below))) ∙ first-none (numberStored q ss) i (a .before) j m)
+        number-same s ss (suc j) (among-below (q .count) j (omega (arith, a .below))) ∙ first-not (numberStored q ss) i (a .before) j m)
 
     all : ((i : ℕ) → i < q .count → numberStored q ss (suc i) ≡ 0) → (k : ℕ) → among (p .count) k ≡ true → numberStored p ss k ≡ 0
     all f k m =
@@ -141,12 +138,9 @@ module _ (store : PageMachine) (meets : MeetsPageDemand3 store) where
     abbrev now : Page
     now = afterCalls storePageOf p cs
 
-    itself : SameGroups p p
-    itself = record { count = refl; groups = λ k e. refl }
-
     -- the lists of calls of the groups
     pub same-calls : (k : ℕ) → callsOf store k p cs ≡ callsOf storePageOf k p cs
-    same-calls k = calls-same cs itself h k
+    same-calls k = calls-same cs (record { count = refl; groups = λ k e. refl }) h k
 
     pub same-page : SameGroups (afterCalls store p cs) now
     same-page =

@@ -12,7 +12,7 @@ use lib.Seq.{getD-set-same, getD-set-other}
 use borrow.Author.Tests.{leb-true, le-leb}
 use Rattle.order.proofs.Cells.{both}
 use Rattle.page.specs.Groups.{total, allOf, putEach, firstRefusing}
-use Rattle.page.proofs.Groups.{last-or, none-next, first-at}
+use Rattle.page.proofs.Groups.{below-or-last, none-next, first-at}
 use Rattle.page_laws.specs.PageLists.{among}
 
 -- ---- a number from 1 to n
@@ -55,7 +55,7 @@ module _ (f : ℕ → ℕ) where
       ⊎-elim
       (λ m. omega (arith, total-one n j m (λ k b. h k (omega arith)), h n (omega arith) (λ e. absurd (omega arith))))
       (λ e. rw e (omega (arith, total-none n (λ k b. h k (omega arith) (λ d. absurd (omega arith))))))
-      (last-or j n l)
+      (below-or-last j n l)
 
 -- ---- tests
 
@@ -84,7 +84,7 @@ module _ {A : Type 0} (f : ℕ → A) (xs : List A) where
       ⊎-elim
       (λ m. getD-set-other (putEach n f xs) n k (f (suc n)) d (λ e. absurd (omega arith)) ∙ put-at d n k (omega arith) m)
       (λ e. rw e (getD-set-same (putEach n f xs) n (f (suc n)) d (omega (arith, length-put n))))
-      (last-or k n l)
+      (below-or-last k n l)
 
 pub put-same : {A : Type 0} (f g : ℕ → A) (xs : List A) (n : ℕ) → ((k : ℕ) → k < n → f (suc k) ≡ g (suc k)) → putEach n f xs ≡ putEach n g xs
 unfolding putEach
@@ -94,10 +94,10 @@ put-same f g xs (suc n) h = rw (put-same f g xs n (λ k l. h k (omega arith)), h
 -- ---- the first group that refuses
 
 module _ (number : ℕ → ℕ) where
-  pub none-first : (n : ℕ) → ((k : ℕ) → k < n → number (suc k) ≡ 0) → firstRefusing n number ≡ 0
+  pub no-first : (n : ℕ) → ((k : ℕ) → k < n → number (suc k) ≡ 0) → firstRefusing n number ≡ 0
   unfolding firstRefusing
-  none-first zero h = refl
-  none-first (suc n) h = none-next number n (none-first n (λ k l. h k (omega arith))) (h n (omega arith))
+  no-first zero h = refl
+  no-first (suc n) h = none-next number n (no-first n (λ k l. h k (omega arith))) (h n (omega arith))
 
   -- of n groups, group k + 1 is the first that refuses
   pub record FirstAt (n k : ℕ) : Type 0 where
@@ -115,11 +115,11 @@ module _ (number : ℕ → ℕ) where
       (none-or-first n)
     where
       go : ((k : ℕ) → k < n → number (suc k) ≡ 0) → (m : ℕ) → number (suc n) ≡ m → ((k : ℕ) → k < suc n → number (suc k) ≡ 0) ⊎ ((k : ℕ) × FirstAt (suc n) k)
-      go h zero z = inl (λ k l. ⊎-elim (h k) (λ d. rw d z) (last-or k n l))
-      go h (suc m) z = inr (n, record { below = omega arith; before = none-first n h; refuses = λ d. absurd (omega arith) })
+      go h zero z = inl (λ k l. ⊎-elim (h k) (λ d. rw d z) (below-or-last k n l))
+      go h (suc m) z = inr (n, record { below = omega arith; before = no-first n h; refuses = λ d. absurd (omega arith) })
 
-  pub first-none : (n : ℕ) → firstRefusing n number ≡ 0 → (k : ℕ) → k < n → number (suc k) ≡ 0
-  first-none n e k l =
+  pub first-not : (n : ℕ) → firstRefusing n number ≡ 0 → (k : ℕ) → k < n → number (suc k) ≡ 0
+  first-not n e k l =
       ⊎-elim
       (λ h. h k l)
       (λ t. let (j, a) = t in absurd (omega (arith, first-at number n j (a .below) (a .before) (a .refuses))))

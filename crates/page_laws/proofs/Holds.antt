@@ -25,8 +25,8 @@ use Rattle.page_store.specs.StoreAnswer.{symbolAt, numberStored, allStored, sto
 use Rattle.page_store.proofs.Storing.{taken-parts}
 use Rattle.page.proofs.Pages.{page-done}
 use Rattle.page_laws.specs.PageLists.{PageCall, HoldsGroups, afterCalls, callsOf}
-use Rattle.page_laws.proofs.Groups.{among-below, of-among, all-same, put-same, none-first}
-use Rattle.page_laws.proofs.Steps.{room, through, group-stored-by}
+use Rattle.page_laws.proofs.Groups.{among-below, of-among, all-same, put-same, no-first}
+use Rattle.page_laws.proofs.Steps.{room, through, group-by-store}
 use Rattle.page_laws.proofs.PageDemand3.{count-after, groups-after}
 
 -- ---- groups
@@ -56,12 +56,12 @@ module _ (p : Page) (h : HoldsGroups p) (ss : List ℕ) (z : storePageOf p ss .n
 
   same-n : (i : ℕ) → i < p .count → groupAt stored (suc i) .n ≡ groupAt p (suc i) .n
   same-n i l =
-      rw (group-stored-by p (room p h) ss i l) (store-holds (groupAt p (suc i)) (symbolAt ss (suc i)) (group-held i l) (accepted i l) .1)
+      rw (group-by-store p (room p h) ss i l) (store-holds (groupAt p (suc i)) (symbolAt ss (suc i)) (group-held i l) (accepted i l) .1)
 
   reading : (i : ℕ) → i < p .count → (readOf (groupAt stored (suc i)) .number ≡ 0) × (readOf (groupAt stored (suc i)) .value .symbol ≡ symbolAt ss (suc i))
   reading i l =
       let e = store-reads (groupAt p (suc i)) (symbolAt ss (suc i)) (group-held i l) (accepted i l) in
-      rw (group-stored-by p (room p h) ss i l) (ap (λ (t : Told Reading). t .number) e, ap (λ (t : Told Reading). t .value .symbol) e)
+      rw (group-by-store p (room p h) ss i l) (ap (λ (t : Told Reading). t .number) e, ap (λ (t : Told Reading). t .value .symbol) e)
 
   stored-page : isPage stored ≡ true
   unfolding isPage likeFirst
@@ -76,6 +76,6 @@ module _ (p : Page) (h : HoldsGroups p) (ss : List ℕ) (z : storePageOf p ss .n
   page-reads =
       rw (through p ss z .2)
       (sym (page-done (isPage stored) (p .count) (numberRead stored) (symbolsOf stored) unread stored-page
-      (none-first (numberRead stored) (p .count) (λ i l. reading i l .0)))
+      (no-first (numberRead stored) (p .count) (λ i l. reading i l .0)))
       ∙ ap (λ (ys : List ℕ). record { number = 0; value = record { group = 0; count = p .count; symbols = ys } })
       (put-same (symbolRead stored) (symbolAt ss) (replicate 8 0) (p .count) (λ i l. reading i l .1)))

@@ -23,8 +23,8 @@ use Rattle.page.specs.Pages.{groupAt}
 use Rattle.page_store.specs.StoreAnswer.{symbolAt, takes, AfterStore, numberStored, storePageOf}
 use Rattle.page_store.proofs.Storing.{store-not}
 use Rattle.page_laws.specs.PageLists.{PageCall, storePage, among, isWorn, storeCall, HoldsGroups, pageStep, ownCall, afterCalls, pulsesOfCalls, callsOf, PageDemand3, MeetsPageDemand3}
-use Rattle.page_laws.proofs.Groups.{among-true, among-below, of-among, total-same, total-plus, total-none, FirstAt, none-first, first-none}
-use Rattle.page_laws.proofs.Steps.{room, Answered, no-page, done, refused, answered, store-call-number, first-refused, step-count, step-length, through, kept, through-stands, worn-stands, other-not, not-stands, own-stands, own-not, worn-first, worn-store, rival-stays, no-calls, group-stored, group-step, pulses-step}
+use Rattle.page_laws.proofs.Groups.{among-true, among-below, of-among, total-same, total-plus, total-none, FirstAt, no-first, first-not}
+use Rattle.page_laws.proofs.Steps.{room, Answered, no-page, done, refused, answered, store-call-number, first-refused, step-count, step-length, through, kept, through-stands, worn-stands, other-not, not-stands, own-stands, own-not, worn-first, worn-store, rival-stays, no-calls, group-by-call, group-step, pulses-step}
 
 -- ---- lists of calls on one group, one after the other
 
@@ -39,16 +39,16 @@ pulses-append g [] ys = omega arith
 pulses-append g (x ∷ xs) ys = omega (arith, pulses-append (applyOf g x .value .group) xs ys)
 
 -- a store that is worn passed the earlier checks
-last-worn : (a b c f : Bool) → isWorn (numberOf ((a, Size) ∷ (b, NoGroup) ∷ (c, NoSymbol) ∷ (f, Worn) ∷ [])) ≡ true
+only-last-worn : (a b c f : Bool) → isWorn (numberOf ((a, Size) ∷ (b, NoGroup) ∷ (c, NoSymbol) ∷ (f, Worn) ∷ [])) ≡ true
     → numberOf ((a, Size) ∷ (b, NoGroup) ∷ (c, NoSymbol) ∷ []) ≡ 0
 unfolding numberOf
-last-worn true true true f e = refl
-last-worn true true false f e = absurd (false≢true e)
-last-worn true false c f e = absurd (false≢true e)
-last-worn false b c f e = absurd (false≢true e)
+only-last-worn true true true f e = refl
+only-last-worn true true false f e = absurd (false≢true e)
+only-last-worn true false c f e = absurd (false≢true e)
+only-last-worn false b c f e = absurd (false≢true e)
 
-worn-last : (g : Group) (s : ℕ) → isWorn (applyOf g (storeCall s) .number) ≡ true → numberOf (earlierChecks g (storeCall s)) ≡ 0
-worn-last g s w = last-worn _ _ _ _ (sym (ap isWorn (apply-number g (storeCall s))) ∙ w)
+worn-passed : (g : Group) (s : ℕ) → isWorn (applyOf g (storeCall s) .number) ≡ true → numberOf (earlierChecks g (storeCall s)) ≡ 0
+worn-passed g s w = only-last-worn _ _ _ _ (sym (ap isWorn (apply-number g (storeCall s))) ∙ w)
 
 -- ---- lists of calls on a page
 
@@ -63,7 +63,7 @@ unfolding afterCalls
 count-after p [] = refl
 count-after p (c ∷ cs) = count-after (stepped p c) cs ∙ step-count p c
 
-pub room-after : (p : Page) (cs : List PageCall) → p .count ≤ length (p .groups) → afterCalls storePageOf p cs .count ≤ length (afterCalls storePageOf p cs .groups)
+room-after : (p : Page) (cs : List PageCall) → p .count ≤ length (p .groups) → afterCalls storePageOf p cs .count ≤ length (afterCalls storePageOf p cs .groups)
 unfolding afterCalls
 room-after p [] r = r
 room-after p (c ∷ cs) r = room-after (stepped p c) cs (omega (arith, step-count p c, step-length p c))
@@ -115,11 +115,11 @@ module _ (p : Page) (h : HoldsGroups p) (cs : List PageCall) where
     each-among : (n : ℕ) → ((i : ℕ) → i < n → numberStored now ss (suc i) ≡ 0) → Each n
     each-among n f = of-among n (λ k. numberStored now ss k ≡ 0) f
 
-    all-stored : told .number ≡ 0 → (takes now ss ≡ true) × Each (p .count)
-    all-stored z = let t = through now ss z in (t .0, each-among (p .count) (λ i l. t .1 i (in-page i l)))
+    each-done : told .number ≡ 0 → (takes now ss ≡ true) × Each (p .count)
+    each-done z = let t = through now ss z in (t .0, each-among (p .count) (λ i l. t .1 i (in-page i l)))
 
-    stored-all : takes now ss ≡ true → Each (p .count) → told .number ≡ 0
-    stored-all t all = go (answered now ss)
+    done-each : takes now ss ≡ true → Each (p .count) → told .number ≡ 0
+    done-each t all = go (answered now ss)
       where
         go : Answered now ss → told .number ≡ 0
         go (no-page f e) = absurd (false≢true (sym f ∙ t))
@@ -139,7 +139,7 @@ module _ (p : Page) (h : HoldsGroups p) (cs : List PageCall) where
         let t = through now ss z in
         let l = among-true (p .count) i e in
         let g = groupAt now (suc i) in
-        let new : groupAt (told .value .page) (suc i) ≡ applyOf g (call (suc i)) .value .group = ap (λ (v : AfterStore). groupAt (v .page) (suc i)) (t .2) ∙ group-stored now (room-after p cs (room p h)) ss i (in-page i l) in
+        let new : groupAt (told .value .page) (suc i) ≡ applyOf g (call (suc i)) .value .group = ap (λ (v : AfterStore). groupAt (v .page) (suc i)) (t .2) ∙ group-by-call now (room-after p cs (room p h)) ss i (in-page i l) in
         let twelve : length (g .levels) ≡ 12 = rw (groups-after p cs (room p h) i l) (group-after (groupAt p (suc i)) (calls (suc i) p cs) (h (suc i) e) .levels) in (
           own-stands now ss (suc i) (through-stands now ss (suc i) z),
           store-call-number now ss (suc i) ∙ t .1 i (in-page i l),
@@ -158,7 +158,7 @@ module _ (p : Page) (h : HoldsGroups p) (cs : List PageCall) where
       before-first b j l = b (suc j) (among-below (suc i - 1) j (omega arith))
 
       first : i < p .count → Before (suc i) → numberStored now ss (suc i) ≢ 0 → FirstAt (numberStored now ss) (now .count) i
-      first l b r = record { below = in-page i l; before = none-first (numberStored now ss) i (before-first b); refuses = r }
+      first l b r = record { below = in-page i l; before = no-first (numberStored now ss) i (before-first b); refuses = r }
 
     refused-first : (k : ℕ) → takes now ss ≡ true → among (p .count) k ≡ true → numberStored now ss k ≢ 0 → Before k
         → (told .number ≡ numberStored now ss k) × (told .value .group ≡ k)
@@ -194,23 +194,23 @@ module _ (p : Page) (h : HoldsGroups p) (cs : List PageCall) where
     abbrev WornAt : ℕ → Type 0
     WornAt k = (takes now ss ≡ true) × (among (p .count) k ≡ true) × Before k × (numberOf (earlierChecks (groupAt now k) (call k)) ≡ 0) × Shut k
 
-    worn-from : (k : ℕ) → isWorn (told .number) ≡ true → told .value .group ≡ k → WornAt k
-    worn-from k w d =
+    worn-why : (k : ℕ) → isWorn (told .number) ≡ true → told .value .group ≡ k → WornAt k
+    worn-why k w d =
         let (i, t) = worn-first now ss w in
         let l : i < p .count = omega (arith, t .first .below, count-after p cs) in
         let own : isWorn (applyOf (groupAt now (suc i)) (call (suc i)) .number) ≡ true = ap isWorn (store-call-number now ss (suc i) ∙ sym (t .number)) ∙ w in
-        let earlier = worn-last (groupAt now (suc i)) (symbolAt ss (suc i)) own in
+        let earlier = worn-passed (groupAt now (suc i)) (symbolAt ss (suc i)) own in
         rw (sym d ∙ t .named) (
           t .taken,
           among-below (p .count) i l,
-          each-among (suc i - 1) (λ j m. first-none (numberStored now ss) i (t .first .before) j (omega arith)),
+          each-among (suc i - 1) (λ j m. first-not (numberStored now ss) i (t .first .before) j (omega arith)),
           earlier,
           worn-shut i l earlier .0 own,
         )
 
-    from-worn : (k : ℕ) → WornAt k → (isWorn (told .number) ≡ true) × (told .value .group ≡ k)
-    from-worn zero (t, m, b, e, shut) = absurd (false≢true m)
-    from-worn (suc i) (t, m, b, e, shut) =
+    worn-where : (k : ℕ) → WornAt k → (isWorn (told .number) ≡ true) × (told .value .group ≡ k)
+    worn-where zero (t, m, b, e, shut) = absurd (false≢true m)
+    worn-where (suc i) (t, m, b, e, shut) =
         let own : isWorn (numberStored now ss (suc i)) ≡ true = ap isWorn (sym (store-call-number now ss (suc i))) ∙ worn-shut i (among-true (p .count) i m) e .1 shut in
         let r = refused-first (suc i) t m (λ z. false≢true (rw z at own)) b in
         (ap isWorn (r .0) ∙ own, r .1)
@@ -222,7 +222,7 @@ module _ (p : Page) (h : HoldsGroups p) (cs : List PageCall) where
         groups = of-among (p .count) (λ k. groupAt now k ≡ after applyOf (groupAt p k) (calls k p cs)) (groups-after p cs (room p h));
         pulses = pulses-after p cs (room p h);
         demand3 = own-demand;
-        accepted = λ ss. (all-stored ss, λ t. stored-all ss (t .0) (t .1));
+        accepted = λ ss. (each-done ss, λ t. done-each ss (t .0) (t .1));
         went-through = stored-each;
         no-page = none-taken;
         first-refuses = refused-first;
@@ -230,7 +230,7 @@ module _ (p : Page) (h : HoldsGroups p) (cs : List PageCall) where
         rivals-stay = λ ss z k e. rival-stays now ss z k;
         worn-named = named-worn;
         in-no-list = no-list;
-        worn-exactly = λ ss k. (λ w. worn-from ss k (w .0) (w .1), from-worn ss k);
+        worn-exactly = λ ss k. (λ w. worn-why ss k (w .0) (w .1), worn-where ss k);
       }
 
 pub page-demand3 : MeetsPageDemand3 storePageOf

@@ -1,5 +1,5 @@
 -- Wrong page stores that fail the claim. Each is caught on a page of two groups of three cells, neither of them written: one in which symbol 1 is
--- refused as worn, and a new one.
+-- refused as worn, and a new one; the one that takes different n on a page of three cells and four.
 -- Assumes nothing.
 use Prim.Native.Nat.{ℕ, zero, suc, _+_, _-_, _<_}
 use mathlib.Core.Path.{_≡_, refl, ap}

@@ -32,7 +32,7 @@ use Rattle.page_store.proofs.Storing.{store-not}
 use Rattle.page.proofs.Groups.{picked-zeros}
 use Rattle.page.proofs.Pages.{back-one, page-done, page-refused}
 use Rattle.page_laws.specs.PageLists.{PageCall, onGroup, storePage, readPage, among, putGroup, isWorn, stands, storeCall, HoldsGroups, pageStep, pagePulses, ownCall}
-use Rattle.page_laws.proofs.Groups.{among-true, among-below, total-same, total-none, total-one, length-put, put-at, FirstAt, none-first, none-or-first}
+use Rattle.page_laws.proofs.Groups.{among-true, among-below, total-same, total-none, total-one, length-put, put-at, FirstAt, no-first, none-or-first}
 
 -- ---- a page of groups has places for them
 
@@ -71,7 +71,7 @@ module _ (p : Page) (ss : List ℕ) where
       go false e = no-page e (sym (store-not p ss e))
       go true e =
           ⊎-elim
-          (λ h. done e h (sym (page-done (takes p ss) (p .count) (numberStored p ss) (allStored p ss) (noneStored p) e (none-first (numberStored p ss) (p .count) h))))
+          (λ h. done e h (sym (page-done (takes p ss) (p .count) (numberStored p ss) (allStored p ss) (noneStored p) e (no-first (numberStored p ss) (p .count) h))))
           (λ t. let (i, a) = t in refused e i a (first-refused e i a))
           (none-or-first (numberStored p ss) (p .count))
 
@@ -192,16 +192,16 @@ module _ (p : Page) (ss : List ℕ) where
   unfolding stands
   through-stands k z = rw z
 
-  refused-stands : (k : ℕ) → told .number ≢ 0 → stands told k ≡ true → (isWorn (told .number) ≡ true) × (told .value .group ≡ k)
+  stands-as-worn : (k : ℕ) → told .number ≢ 0 → stands told k ≡ true → (isWorn (told .number) ≡ true) × (told .value .group ≡ k)
   unfolding stands
-  refused-stands k r e =
+  stands-as-worn k r e =
       let t = both (isWorn (told .number)) (eqb (told .value .group) k) (sym (picked-zeros (told .number) true _ r) ∙ e) in
       (t .0, eqb-true (told .value .group) k (t .1))
 
   -- its call in the list of a group, if it has one, is refused
-  stands-refused : (k : ℕ) → told .number ≢ 0 → stands told k ≡ true → applyOf (groupAt p k) (storeCall (symbolAt ss k)) .number ≢ 0
-  stands-refused k r e z =
-      let t = refused-stands k r e in
+  own-refused : (k : ℕ) → told .number ≢ 0 → stands told k ≡ true → applyOf (groupAt p k) (storeCall (symbolAt ss k)) .number ≢ 0
+  own-refused k r e z =
+      let t = stands-as-worn k r e in
       r (sym (rw (t .1) at (worn-store (t .0) .1)) ∙ z)
 
 -- a list of one call or none, where the call would be refused
@@ -226,7 +226,7 @@ one-stays g q c false r rs z rest = refl
 pub rival-stays : (p : Page) (ss : List ℕ) → storePageOf p ss .number ≢ 0 → (k : ℕ) (q : Group) (r : Rival) (rs : List Rival)
     → Course applyOf (groupAt p k) q r (ownCall storePageOf k p (storePage ss)) rs → latest r rs ≡ r
 unfolding ownCall
-rival-stays p ss z k q r rs x = one-stays (groupAt p k) q (storeCall (symbolAt ss k)) _ r rs (stands-refused p ss k z) x
+rival-stays p ss z k q r rs x = one-stays (groupAt p k) q (storeCall (symbolAt ss k)) _ r rs (own-refused p ss k z) x
 
 pub no-calls : (g : Group) → pulsesOf applyOf g [] ≡ 0
 unfolding pulsesOf
@@ -254,16 +254,16 @@ module _ (p : Page) where
             getD-set-other (p .groups) (j - 1) (suc i - 1) _ noGroup (λ q. d (omega (arith, low)))
         other d false e = refl
 
-    pub group-stored-by : (ss : List ℕ) (i : ℕ) → i < p .count → groupAt (allStored p ss .page) (suc i) ≡ storeOf (groupAt p (suc i)) (symbolAt ss (suc i)) .value .group
+    pub group-by-store : (ss : List ℕ) (i : ℕ) → i < p .count → groupAt (allStored p ss .page) (suc i) ≡ storeOf (groupAt p (suc i)) (symbolAt ss (suc i)) .value .group
     unfolding groupStored
-    group-stored-by ss i l =
+    group-by-store ss i l =
         ap (λ (k : ℕ). getD (putEach (p .count) (groupStored p ss) (p .groups)) k noGroup) (back-one i)
         ∙ put-at (groupStored p ss) (p .groups) noGroup (p .count) i places l
 
-    pub group-stored : (ss : List ℕ) (i : ℕ) → i < p .count
+    pub group-by-call : (ss : List ℕ) (i : ℕ) → i < p .count
         → groupAt (allStored p ss .page) (suc i) ≡ applyOf (groupAt p (suc i)) (storeCall (symbolAt ss (suc i))) .value .group
     unfolding applyOf
-    group-stored ss i l = group-stored-by ss i l
+    group-by-call ss i l = group-by-store ss i l
 
     pub group-step : (c : PageCall) (i : ℕ) → i < p .count
         → groupAt (pageStep storePageOf p c) (suc i) ≡ after applyOf (groupAt p (suc i)) (ownCall storePageOf (suc i) p c)
@@ -273,10 +273,10 @@ module _ (p : Page) where
         ⊎-elim
         (λ z.
         ap (λ (v : AfterStore). groupAt (v .page) (suc i)) (through p ss z .2)
-        ∙ group-stored ss i l
+        ∙ group-by-call ss i l
         ∙ ap (λ (b : Bool). after applyOf (groupAt p (suc i)) (cond b (storeCall (symbolAt ss (suc i)) ∷ []) [])) (sym (through-stands p ss (suc i) z)))
         (λ r.
-        let same = one-refused (groupAt p (suc i)) (storeCall (symbolAt ss (suc i))) _ (stands-refused p ss (suc i) r) .0 in
+        let same = one-refused (groupAt p (suc i)) (storeCall (symbolAt ss (suc i))) _ (own-refused p ss (suc i) r) .0 in
         ap (λ (q : Page). groupAt q (suc i)) (kept p ss r .0) ∙ sym same)
         (zero-or (storePageOf p ss .number))
     group-step readPage i l = refl
@@ -308,6 +308,6 @@ module _ (p : Page) where
       ∙ total-same (pulsesStored p ss) _ (p .count) (λ k l. rw (through-stands p ss (suc k) z) (stored-pulses ss (suc k))))
       (λ r.
       kept p ss r .1
-      ∙ sym (total-none _ (p .count) (λ k l. one-refused (groupAt p (suc k)) (storeCall (symbolAt ss (suc k))) _ (stands-refused p ss (suc k) r) .1)))
+      ∙ sym (total-none _ (p .count) (λ k l. one-refused (groupAt p (suc k)) (storeCall (symbolAt ss (suc k))) _ (own-refused p ss (suc k) r) .1)))
       (zero-or (storePageOf p ss .number))
   pulses-step readPage = sym (total-none _ (p .count) (λ k l. no-calls (groupAt p (suc k))))

@@ -1,6 +1,6 @@
 -- The claim speaks of something. There are freshly opened pages, of every n and each number of groups. On every such page a first page store goes
--- through, whichever of the symbols below K(n) it stores (there are some: `some-symbol`, code/Laws). And where one cell of one group, whichever, has worn
--- before it, the same page store is refused by that group as worn, though each other group would have taken its symbol.
+-- through, whichever of the symbols below K(n) it stores (there are some: `some-symbol`, code/Laws). And where in one group, whichever, the cell that the
+-- codeword of its symbol has on top has worn to 0, that page store is refused by this group as worn, though each other one would have taken its symbol.
 -- Assumes nothing.
 use Prim.Native.Nat.{ℕ, suc, _-_, _≤_, _<_, zero-le}
 use native.Mathlib.Omega.{arith}
@@ -44,7 +44,7 @@ use Rattle.page_store.specs.StoreAnswer.{symbolAt, takes, numberStored, allStor
 use Rattle.page_store.proofs.Storing.{is-taken}
 use Rattle.page.proofs.Pages.{page-done}
 use Rattle.page_laws.specs.PageLists.{onGroup, among, storeCall, HoldsGroups, OpenedPage, ownCall, afterCalls, callsOf}
-use Rattle.page_laws.proofs.Groups.{among-below, of-among, all-each, none-first}
+use Rattle.page_laws.proofs.Groups.{among-below, of-among, all-each, no-first}
 use Rattle.page_laws.proofs.Steps.{room, store-call-number}
 use Rattle.page_laws.proofs.PageDemand3.{count-after, groups-after, page-claim}
 
@@ -65,7 +65,7 @@ opened-page-of n c e l m =
 
 -- ---- the first page store goes through
 
--- n of each group
+-- records with one n are a page
 like-all : (p : Page) → 1 ≤ p .count → p .count ≤ 8 → (n : ℕ) → ((i : ℕ) → i < p .count → groupAt p (suc i) .n ≡ n) → isPage p ≡ true
 unfolding isPage likeFirst
 like-all p l m n h =
@@ -81,12 +81,12 @@ module _ (n : ℕ) (p : Page) (o : OpenedPage n p) where
   unfolding openOf
   opened-at i l = o .groups (suc i) (among-below (p .count) i l) ∙ told-accepted ((isSize n, Size) ∷ []) (opened n) noGroup (o .opens) .1
 
-  pub opened-page : isPage p ≡ true
+  opened-page : isPage p ≡ true
   opened-page = like-all p (o .least) (o .most) n (λ i l. ap (λ (g : Group). g .n) (opened-at i l))
 
   module _ (ss : List ℕ) where
     -- the store of a symbol that there is, in a group of the page
-    pub first-number : (i : ℕ) → i < p .count → symbolAt ss (suc i) < K n → numberStored p ss (suc i) ≡ 0
+    first-number : (i : ℕ) → i < p .count → symbolAt ss (suc i) < K n → numberStored p ss (suc i) ≡ 0
     first-number i l s =
         sym (store-call-number p ss (suc i))
         ∙ rw (opened-at i l) (first-store n size (symbolAt ss (suc i)) s)
@@ -96,7 +96,7 @@ module _ (n : ℕ) (p : Page) (o : OpenedPage n p) where
     first-page w s =
         sym (ap (λ t. t .number)
         (page-done (takes p ss) (p .count) (numberStored p ss) (allStored p ss) _ (is-taken p ss opened-page w)
-        (none-first (numberStored p ss) (p .count) (λ i l. first-number i l (s (suc i) (among-below (p .count) i l))))))
+        (no-first (numberStored p ss) (p .count) (λ i l. first-number i l (s (suc i) (among-below (p .count) i l))))))
 
 -- ---- and one is refused half way: the cell that the codeword of its symbol has on top has worn to 0 in one group
 

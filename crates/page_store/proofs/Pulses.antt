@@ -1,4 +1,4 @@
--- A store has at most 49,140 pulses: twelve cells that rise from 0 to 4,095. Those of eight groups fit a machine word.
+-- A store has at most 49,140 pulses: twelve cells that rise from 0 to 4,095.
 -- Assumes nothing.
 use Prim.Native.Nat.{ℕ, _≤_, zero-le}
 use native.Mathlib.Omega.{arith}

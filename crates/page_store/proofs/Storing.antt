@@ -27,11 +27,12 @@ use Rattle.page.proofs.Pages.{back-one, group-at, page-not, page-done, page-ref
 use Rattle.page_store.specs.StoreAnswer.{symbolAt, takes, numberStored, groupStored, pulsesStored, allStored, noneStored, storePageOf}
 use Rattle.page_store.proofs.Pulses.{store-pulses}
 
-pub symbol-at : (ss : List ℕ) (k : ℕ) → getD ss k 0 ≡ symbolAt ss (suc k)
+symbol-at : (ss : List ℕ) (k : ℕ) → getD ss k 0 ≡ symbolAt ss (suc k)
 symbol-at ss k = rw (back-one k)
 
 -- ---- page store
 
+-- the first k groups are stored to in the copy, none of them refused, and their pulses are summed
 pub record StoredTo (p : Page) (ss : List ℕ) (groups : List Group) (pulses k : ℕ) : Type 0 where
   pub is-taken : takes p ss ≡ true
   pub long : length (p .groups) ≡ 8
