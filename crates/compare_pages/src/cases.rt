@@ -107,7 +107,7 @@ fn made(n: usize, many: usize, k: usize) -> Case {
     Case { groups, places }
 }
 
-// 3 to 8 cells, all 1,280 cases; 9 to 12 cells, a fifth of them, in which each refusal comes from seven of the eight groups or all.
+// 3 to 8 cells, all 1,280 cases; 9 to 12 cells, a fifth of them, in which 2, 5, 6, 7 and 8 each come from seven of the eight groups or all.
 pub fn refusing() -> Tally {
     let mut t = none();
     for i in 0..8704 {
