@@ -56,12 +56,13 @@ not-zero r e =
     let done : Refused r ≡ Done = sym (outcome-at (Refused r)) ∙ ap (λ (k : ℕ). getD outcomes k Done) e in
     true≢false (sym (ap isDone done))
 
+-- a number that is not 0 picks the zeros
+pub picked-zeros : {A : Type 0} (k : ℕ) (result zeros : A) → (k ≡ 0 → ⊥) → ifDone k result zeros ≡ zeros
+picked-zeros zero result zeros r = absurd (r refl)
+picked-zeros (suc k) result zeros r = refl
+
 pub refused-zeros : {A : Type 0} (r : Refusal) (result zeros : A) → ifDone (refusalNumber r) result zeros ≡ zeros
-refused-zeros {A} r result zeros = go (refusalNumber r) refl
-  where
-    go : (k : ℕ) → refusalNumber r ≡ k → ifDone k result zeros ≡ zeros
-    go zero e = absurd (not-zero r e)
-    go (suc k) e = refl
+refused-zeros r result zeros = picked-zeros (refusalNumber r) result zeros (not-zero r)
 
 -- ---- checks
 

@@ -3,10 +3,10 @@
 use Prim.Native.Nat.{ℕ, zero, suc, _<_}
 use native.Mathlib.Decide.{decLt}
 use native.Mathlib.Omega.{arith}
-use mathlib.Core.Path.{_≡_, refl}
+use mathlib.Core.Path.{_≡_}
 use mathlib.Core.Logic.{_⊎_, inl, inr, ⊎-elim}
 use mathlib.Core.Bool.{Bool, false, and-false}
-use Rattle.order.specs.Refusals.{ifDone}
+use Rattle.order.proofs.Refusals.{picked-zeros}
 use Rattle.page.specs.Groups.{allOf, firstRefusing}
 
 -- below n + 1 is below n or n
@@ -24,11 +24,6 @@ module _ (test : ℕ → Bool) where
       (below-or-last k n l)
 
 -- ---- the first group that refuses
-
--- a number that is not 0 picks the zeros
-pub picked-zeros : {A : Type 0} (k : ℕ) (result zeros : A) → (k ≡ 0 → ⊥) → ifDone k result zeros ≡ zeros
-picked-zeros zero result zeros r = absurd (r refl)
-picked-zeros (suc k) result zeros r = refl
 
 module _ (number : ℕ → ℕ) where
   -- none of so many refuses, nor the next one

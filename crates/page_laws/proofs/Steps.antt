@@ -15,6 +15,7 @@ use borrow.Author.Tests.{leb-true, eqb-true, eq-eqb, ne-eqb}
 use Rattle.order.specs.declared.Refusal.the-variants.{NoPage}
 use Rattle.order.specs.Refusals.{refusalNumber, numberOf, Told, answer}
 use Rattle.order.proofs.Cells.{both, eq-cases}
+use Rattle.order.proofs.Refusals.{picked-zeros}
 use Rattle.group.specs.declared.Group.{Group}
 use Rattle.group.specs.Record.{noGroup, IsGroup}
 use Rattle.plain_machine.specs.declared.Kind.{Kind}
@@ -29,7 +30,6 @@ use Rattle.page.specs.Groups.{total, putEach}
 use Rattle.page.specs.Pages.{groupAt}
 use Rattle.page_store.specs.StoreAnswer.{symbolAt, takes, AfterStore, numberStored, groupStored, pulsesStored, allStored, noneStored, storePageOf}
 use Rattle.page_store.proofs.Storing.{store-not}
-use Rattle.page.proofs.Groups.{picked-zeros}
 use Rattle.page.proofs.Pages.{back-one, page-done, page-refused}
 use Rattle.page_laws.specs.PageLists.{PageCall, onGroup, storePage, readPage, among, putGroup, isWorn, stands, storeCall, HoldsGroups, pageStep, pagePulses, ownCall}
 use Rattle.page_laws.proofs.Groups.{among-true, among-below, total-same, total-none, total-one, length-put, put-at, FirstAt, no-first, none-or-first}
