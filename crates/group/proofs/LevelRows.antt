@@ -9,7 +9,7 @@ use native.Mathlib.Nat.{sub-zero, zero-sub, suc-sub-suc, le-refl, le-trans}
 use native.Mathlib.Omega.{arith}
 use lib.Bits.{bitAnd, bitOr}
 use lib.Dec.{leb, ltb}
-use lib.ListN.{length, getD, drop, replicate, length-replicate}
+use lib.ListN.{length, getD, take, drop, replicate, length-drop, length-replicate}
 use lib.Seq.{drop-at}
 use borrow.Author.Tests.{leb-true, leb-false, le-leb, lt-leb}
 use Rattle.order.proofs.Cells.{both, lt-cases}
@@ -71,10 +71,35 @@ all-drop m zero xs e = e
 all-drop m (suc k) [] e = e
 all-drop m (suc k) (x ∷ xs) e = all-drop m k xs (both (leb x m) (allAtMost m xs) e .1)
 
-all-append : (m k v : ℕ) (ys : List ℕ) → v ≤ m → allAtMost m ys ≡ true → allAtMost m (replicate k v ++ ys) ≡ true
+all-both : (m : ℕ) (xs ys : List ℕ) → allAtMost m xs ≡ true → allAtMost m ys ≡ true → allAtMost m (xs ++ ys) ≡ true
 unfolding allAtMost
-all-append m zero v ys h e = e
-all-append m (suc k) v ys h e = rw (le-leb v m h) (all-append m k v ys h e)
+all-both m [] ys p q = q
+all-both m (x ∷ xs) ys p q =
+    let t = both (leb x m) (allAtMost m xs) p in
+    rw (t .0) (all-both m xs ys (t .1) q)
+
+pub all-take : (m k : ℕ) (xs : List ℕ) → allAtMost m xs ≡ true → allAtMost m (take k xs) ≡ true
+unfolding allAtMost
+all-take m zero xs e = refl
+all-take m (suc k) [] e = refl
+all-take m (suc k) (x ∷ xs) e =
+    let t = both (leb x m) (allAtMost m xs) e in
+    rw (t .0) (all-take m k xs (t .1))
+
+-- one number over and over
+same-low : (m k v : ℕ) → v ≤ m → allAtMost m (replicate k v) ≡ true
+unfolding allAtMost
+same-low m zero v h = refl
+same-low m (suc k) v h = rw (le-leb v m h) (same-low m k v h)
+
+-- no number above 0: zeros
+zeros-only : (xs : List ℕ) → allAtMost 0 xs ≡ true → xs ≡ replicate (length xs) 0
+unfolding allAtMost
+zeros-only [] e = refl
+zeros-only (x ∷ xs) e =
+    let t = both (leb x 0) (allAtMost 0 xs) e in
+    let z : x ≡ 0 = omega (arith, leb-true x 0 (t .0)) in
+    ap₂ _∷_ z (zeros-only xs (t .1))
 
 -- ---- rows, place by place
 
@@ -170,22 +195,27 @@ row-below {xs} {ys} m n p e =
     rw (all-below m p (t .0)) (all-below 0 (drop-below n p) (t .1))
 
 zeros-low : (m k : ℕ) → allAtMost m (replicate k 0) ≡ true
-unfolding allAtMost
-zeros-low m zero = refl
-zeros-low m (suc k) = rw (le-leb 0 m (omega arith)) (zeros-low m k)
+zeros-low m k = same-low m k 0 (omega arith)
 
 pub zeros-row : (m n k : ℕ) → isRow m n (replicate k 0) ≡ true
 unfolding isRow
 zeros-row m n k = rw (zeros-low m k, all-drop 0 n (replicate k 0) (zeros-low 0 k)) refl
 
+-- n numbers up to m, and zeros after them
+pub padded-row : (m n k : ℕ) (xs : List ℕ) → allAtMost m xs ≡ true → length xs ≡ n → isRow m n (xs ++ replicate k 0) ≡ true
+unfolding isRow
+padded-row m n k xs e long =
+    let clear : List ℕ = replicate k 0 in
+    rw (all-both m xs clear e (zeros-low m k), drop-at xs clear n long) (zeros-low 0 k)
+
 -- m in each of n places
 pub full-row : (m n : ℕ) → isRow m n (replicate n m ++ replicate (12 - n) 0) ≡ true
+full-row m n = padded-row m n (12 - n) (replicate n m) (same-low m n m (le-refl m)) (length-replicate n m)
+
+-- past n places a row has zeros
+pub row-zeros : (m n : ℕ) (xs : List ℕ) → isRow m n xs ≡ true → drop n xs ≡ replicate (length xs - n) 0
 unfolding isRow
-full-row m n =
-    let full : List ℕ = replicate n m in
-    let clear : List ℕ = replicate (12 - n) 0 in
-    rw (all-append m n m clear (le-refl m) (zeros-low m (12 - n)), drop-at full clear n (length-replicate n m))
-    (zeros-low 0 (12 - n))
+row-zeros m n xs e = rw (length-drop n xs) at (zeros-only (drop n xs) (both (allAtMost m xs) (allAtMost 0 (drop n xs)) e .1))
 
 -- levels up to 4,095 have risen by no more than that in each place
 pub rises-most : (xs ys : List ℕ) → allAtMost 4095 ys ≡ true → rises xs ys ≤ 4095 * length xs

@@ -2,7 +2,7 @@
 -- Assumes nothing.
 use Prim.Native.Nat.{ℕ, _≤_}
 use native.Mathlib.Omega.{arith}
-use mathlib.Core.Path.{_≡_, refl, _∙_}
+use mathlib.Core.Path.{_≡_, refl, ap, _∙_}
 use mathlib.Core.Bool.{Bool, true, false, _&&_}
 use mathlib.Core.List.{List}
 use lib.ListN.{length}
@@ -45,11 +45,16 @@ module _ (n : ℕ) (xs : List ℕ) (t : isOrder n xs ≡ true) where
     pub recorded-list : listed (orderRecord xs) ≡ xs
     recorded-list = record-listed xs short
 
-    pub recorded-passes : numberOf (orderChecks (orderRecord xs)) ≡ 0
-    unfolding orderRecord
-    recorded-passes =
+    pub recorded-order : isOrderOf n (orderRecord xs) ≡ true
+    recorded-order =
         let size = order-true n xs t .size in
-        sized-holds (length xs) _ _ (omega arith) short (record-order xs short (size-in (length xs) (omega arith) short) ∙ rw size t)
+        let whole : isOrder (length xs) xs ≡ true = rw size t in
+        rw size at (record-order xs short (size-in (length xs) (omega arith) short) ∙ whole)
+
+    pub recorded-passes : numberOf (orderChecks (orderRecord xs)) ≡ 0
+    recorded-passes =
+        let whole : isOrderOf (orderRecord xs .len) (orderRecord xs) ≡ true = ap (λ (k : ℕ). isOrderOf k (orderRecord xs)) recorded-length ∙ recorded-order in
+        sized-holds (orderRecord xs .len) _ _ (omega (arith, recorded-length)) (omega (arith, recorded-length)) whole
 
 -- what an order that passes the checks tells
 module _ (o : Order) (d : numberOf (orderChecks o) ≡ 0) where

@@ -2,7 +2,7 @@
 -- answer carries are a push program to the levels that it leaves, and its pulses the sum of the rises.
 -- Assumes nothing.
 use Prim.Native.Nat.{ℕ, zero, suc, _-_, _≤_, zero-le}
-use mathlib.Core.Path.{_≡_, refl, sym, ap, _∙_}
+use mathlib.Core.Path.{_≡_, refl, sym, ap, subst, _∙_}
 use mathlib.Core.Bool.{Bool, true, false, false≢true, cond}
 use mathlib.Core.List.{List, [], _∷_, _++_}
 use mathlib.Core.Option.{none}
@@ -66,6 +66,20 @@ acceptBy g o Read = readStep g (readingOf g)
 abbrev pub accept : Group → Call → Step
 accept g c = acceptBy g (c .target) (c .kind)
 
+-- the part of an answer that the answer to a write has too
+abbrev pub programPart : Step → Program
+programPart s = record { group = s .group; pulses = s .pulses; count = s .count; pushes = s .pushes }
+
+accept-pushed : (g : Group) (o : Order) (k : Kind) → writes k ≡ true → programPart (acceptBy g o k) ≡ pushed g (targetBy g o k)
+accept-pushed g o Write w = refl
+accept-pushed g o (WriteInto room) w = refl
+accept-pushed g o (Store s) w = refl
+accept-pushed g o Scrub w = refl
+accept-pushed g o (Leak c d) w = absurd (false≢true w)
+accept-pushed g o (Wear c cap) w = absurd (false≢true w)
+accept-pushed g o Erase w = absurd (false≢true w)
+accept-pushed g o Read w = absurd (false≢true w)
+
 -- an answer's value, and what is made of it
 module _ (list : List (Bool × Refusal)) (g : Group) where
   after-program : (p : Program) (s : ℕ) → afterProgram (answer list p (unpushed g)) s ≡ answer list (programmedStep p s none) (quiet g)
@@ -120,6 +134,10 @@ pub apply-value : (g : Group) (c : Call) → applyOf g c .value ≡ ifDone (numb
 unfolding applyOf answer
 apply-value g c = ap (λ (t : Told Step). t .value) (apply-by g (c .target) (c .kind))
 
+-- an accepted one carries the push-up to its target
+pub apply-pushed : (g : Group) (c : Call) → writes (c .kind) ≡ true → applyOf g c .number ≡ 0 → programPart (applyOf g c .value) ≡ pushed g (target g c)
+apply-pushed g c w e = rw (apply-value g c, sym (apply-number g c) ∙ e) (accept-pushed g (c .target) (c .kind) w)
+
 -- a refused call leaves the record, so that the machine goes where it goes by its accepted calls alone
 pub same-group : (g : Group) (c : Call) → ifDone (applyOf g c .number) (applyOf g c .value .group) g ≡ applyOf g c .value .group
 same-group g c = rw (apply-number g c, apply-value g c) (go (numberOf (checks g c)))
@@ -172,7 +190,7 @@ module _ (g : Group) (c : Call) (w : writes (c .kind) ≡ true) where
 -- ---- targets
 
 -- past the earlier checks of a write, the record is a group and the target an order of its cells
-target-order : (g : Group) (o : Order) (k : Kind) → writes k ≡ true → numberOf (earlierBy g o k) ≡ 0 → (numberOf (groupChecks g) ≡ 0) × (isOrder (g .n) (targetBy g o k) ≡ true)
+pub target-order : (g : Group) (o : Order) (k : Kind) → writes k ≡ true → numberOf (earlierBy g o k) ≡ 0 → (numberOf (groupChecks g) ≡ 0) × (isOrder (g .n) (targetBy g o k) ≡ true)
 unfolding wordOf
 target-order g o Write w e =
     let t = all-held _ (groupChecks g) e in
@@ -224,14 +242,8 @@ module _ (g : Group) (o : Order) (twelve : length (g .levels) ≡ 12) where
       counted-program g _ (t .1) (omega (arith, twelve, checked-size g (t .0)))
 
   accept-program : (k : Kind) → writes k ≡ true → numberOf (earlierBy g o k) ≡ 0 → IsPushProgram (carried (acceptBy g o k)) (g .levels) (acceptBy g o k .group .levels)
-  accept-program Write w e = target-program Write w e
-  accept-program (WriteInto room) w e = target-program (WriteInto room) w e
-  accept-program (Store s) w e = target-program (Store s) w e
-  accept-program Scrub w e = target-program Scrub w e
-  accept-program (Leak c d) w e = absurd (false≢true w)
-  accept-program (Wear c cap) w e = absurd (false≢true w)
-  accept-program Erase w e = absurd (false≢true w)
-  accept-program Read w e = absurd (false≢true w)
+  accept-program k w e =
+      subst (λ (p : Program). IsPushProgram (counted (p .count) (p .pushes)) (g .levels) (p .group .levels)) (sym (accept-pushed g o k w)) (target-program k w e)
 
 -- the answer to a write, a store or a scrub, also one that is refused, carries a push program from the levels that it found to those that it left
 pub apply-program : (g : Group) (c : Call) → length (g .levels) ≡ 12 → writes (c .kind) ≡ true
