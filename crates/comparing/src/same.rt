@@ -41,6 +41,7 @@ pub fn refusal(r: Refusal) -> u8 {
         Refusal::NoRaise => 14,
         Refusal::RoomShort => 15,
         Refusal::NoPage => 16,
+        Refusal::Measurement => 17,
     }
 }
 

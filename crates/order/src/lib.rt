@@ -73,6 +73,7 @@ pub enum Refusal {
     NoRaise,
     RoomShort,
     NoPage,
+    Measurement,
 }
 
 pub enum Outcome {
@@ -124,6 +125,7 @@ pub fn refusal_number(refusal: Refusal) -> u8
         Refusal::NoRaise => 14,
         Refusal::RoomShort => 15,
         Refusal::NoPage => 16,
+        Refusal::Measurement => 17,
     }
 }
 
