@@ -23,13 +23,14 @@ use Rattle.group.specs.Changes.{openOf}
 use Rattle.group.proofs.Levels.{at-most-refl, at-most-trans, sum, sum-mono, rises-up, rises-down, leaked-mono, leaked-loss}
 use Rattle.push_up.proofs.Minimal.{raise-above, raise-least}
 use Rattle.group.proofs.Groups.{open-group}
+use Rattle.take_over.proofs.Taken.{take-over-group}
 use Rattle.push_up.proofs.Writes.{push-holds, fits-where}
 use Rattle.plain_machine.specs.declared.Kind.{Kind}
 use Rattle.plain_machine.specs.declared.Kind.the-variants.{Write, WriteInto, Store, Scrub, Leak, Wear, Erase, Read}
 use Rattle.plain_machine.specs.declared.Call.{Call}
 use Rattle.engine.specs.Scrub.{quiet}
 use Rattle.plain_machine.specs.Machine.{writes, targetBy, target, earlierChecks, applyOf, checks}
-use Rattle.rivals.specs.Rivals.{Rival, standing, Raised, Follows, Moves, entrant, latest, after, pulsesOf, plainAfter, Course, rest, next, plain, own, Raisable, Demand3, MeetsDemand3}
+use Rattle.rivals.specs.Rivals.{Rival, standing, Raised, Follows, Moves, entrant, latest, after, pulsesOf, plainAfter, Course, rest, next, plain, own, Raisable, Demand3, Begun, byOpen, byTakeOver, MeetsDemand3}
 use Rattle.plain_machine.proofs.Machine.{acceptBy, accept, apply-number, apply-value, same-group, apply-group, target-shows, done-checks, done-pushes, worn-beyond, kept-rises, apply-rises}
 
 -- the rival r beside the group g, whose answers have added up to q
@@ -218,10 +219,14 @@ module _ (g : Group) (h : IsGroup g) (cs : List Call) where
         worn-exactly = λ c w e. rw (plain-ours g cs) (not-open c w e, shut-worn c w e);
       }
 
--- ---- the mission's case: a freshly opened group
+-- ---- the two beginnings: a freshly opened group, as the mission has it, and one that was taken over
 
-pub demand3-open : MeetsDemand3 applyOf
-demand3-open n e cs = demand3 (openOf n .value) (open-group n e) cs
+pub begun-group : {g : Group} → Begun g → IsGroup g
+begun-group (byOpen n e) = open-group n e
+begun-group (byTakeOver n ls cs e) = take-over-group n ls cs e
+
+pub demand3-begun : MeetsDemand3 applyOf
+demand3-begun g b cs = demand3 g (begun-group b) cs
 
 pub opened-group : (n : ℕ) → isSize n ≡ true → IsGroup (opened n)
 unfolding openOf

@@ -1,6 +1,6 @@
--- What demand 3 determines of a machine. After every list of calls from an opened group, one that meets it has the plain machine's group, its answers
--- have added up to the same pulses, and its answer to the next call has the plain machine's number, group and pulses. The symbol, the verdict and the
--- pushes are left to the contracts.
+-- What demand 3 determines of a machine. After every list of calls from a group that was opened or taken over, one that meets it has the plain machine's
+-- group, its answers have added up to the same pulses, and its answer to the next call has the plain machine's number, group and pulses. The symbol, the
+-- verdict and the pushes are left to the contracts.
 -- Assumes nothing.
 use Prim.Native.Nat.{ℕ, _+_, _≤_}
 use mathlib.Core.Path.{_≡_, refl, sym, _∙_}
@@ -16,17 +16,15 @@ use Rattle.order.specs.Order.{noOrder}
 use Rattle.order.proofs.Refusals.{all-held, check-held, check-holds, check-fails, later-decide, all-hold}
 use Rattle.group.specs.declared.Group.{Group}
 use Rattle.group.specs.Record.{groupChecks, IsGroup}
-use Rattle.group.specs.Changes.{openOf}
 use Rattle.group.proofs.Levels.{at-most-antisym}
 use Rattle.group.proofs.Checks.{checked-size, cell-true}
-use Rattle.group.proofs.Groups.{open-group}
 use Rattle.engine.specs.ReadStore.{placeRead}
 use Rattle.plain_machine.specs.declared.Kind.the-variants.{Leak, Read}
 use Rattle.plain_machine.specs.declared.Call.{Call}
 use Rattle.plain_machine.specs.Machine.{target, checks, applyOf}
 use Rattle.plain_machine.proofs.Machine.{apply-number}
-use Rattle.rivals.specs.Rivals.{Rival, standing, entrant, latest, Moves, Machine, after, pulsesOf, plainAfter, Course, rest, next, plain, own, Demand3, MeetsDemand3}
-use Rattle.rivals.proofs.Demand3.{plain-step, our-end, side, group-after, demand3}
+use Rattle.rivals.specs.Rivals.{Rival, standing, entrant, latest, Moves, Machine, after, pulsesOf, plainAfter, Course, rest, next, plain, own, Demand3, Begun, MeetsDemand3}
+use Rattle.rivals.proofs.Demand3.{plain-step, our-end, side, group-after, demand3, begun-group}
 
 -- ---- a record to which, at every call, the same check applies first as to a group has that group's n and mark
 
@@ -127,21 +125,18 @@ module _ (run : Machine) where
 
   -- ---- the theorem
 
-  module _ (meets : MeetsDemand3 run) (n : ℕ) (e : openOf n .number ≡ 0) (cs : List Call) where
-    abbrev pub start : Group
-    start = openOf n .value
-
+  module _ (meets : MeetsDemand3 run) (start : Group) (b : Begun start) (cs : List Call) where
     group : IsGroup start
-    group = open-group n e
+    group = begun-group b
 
     theirs : Demand3 run start cs
-    theirs = meets n e cs
+    theirs = meets start b cs
 
     ours : Demand3 applyOf start cs
     ours = demand3 start group cs
 
     numbered : Numbered start start
-    numbered = record { next-call = λ ds c. meets n e ds .answered c ∙ meets n e ds .handed c }
+    numbered = record { next-call = λ ds c. meets start b ds .answered c ∙ meets start b ds .handed c }
 
     -- our course is one of its rivals, and its course one of ours
     our-rival : Course run start start (entrant start) cs (own applyOf start 0 cs)
@@ -198,13 +193,12 @@ module _ (run : Machine) where
   pulses-next g [] c = omega arith
   pulses-next g (d ∷ cs) c = omega (arith, pulses-next (run g d .value .group) cs c)
 
-module _ (run : Machine) (meets : MeetsDemand3 run) (n : ℕ) (e : openOf n .number ≡ 0) (cs : List Call) (c : Call) where
-  pub same-answer : let t = run (after run (openOf n .value) cs) c in let u = applyOf (after applyOf (openOf n .value) cs) c in
+module _ (run : Machine) (meets : MeetsDemand3 run) (g : Group) (b : Begun g) (cs : List Call) (c : Call) where
+  pub same-answer : let t = run (after run g cs) c in let u = applyOf (after applyOf g cs) c in
       (t .number ≡ u .number) × (t .value .group ≡ u .value .group) × (t .value .pulses ≡ u .value .pulses)
   same-answer =
-      let g = openOf n .value in
-      let all = same-pulses run meets n e (cs ++ c ∷ []) in (
-        same-number run meets n e cs c,
-        sym (after-next run g cs c) ∙ same-group run meets n e (cs ++ c ∷ []) ∙ after-next applyOf g cs c,
-        omega (arith, all, same-pulses run meets n e cs, pulses-next run g cs c, pulses-next applyOf g cs c),
+      let all = same-pulses run meets g b (cs ++ c ∷ []) in (
+        same-number run meets g b cs c,
+        sym (after-next run g cs c) ∙ same-group run meets g b (cs ++ c ∷ []) ∙ after-next applyOf g cs c,
+        omega (arith, all, same-pulses run meets g b cs, pulses-next run g cs c, pulses-next applyOf g cs c),
       )

@@ -31,7 +31,7 @@ use Rattle.plain_machine.specs.declared.Call.{Call}
 use Rattle.engine.specs.Scrub.{Step, quiet}
 use Rattle.plain_machine.specs.Machine.{writes, target, applyOf}
 use Rattle.plain_machine.proofs.Machine.{accept}
-use Rattle.rivals.specs.Rivals.{Rival, Raised, Follows, Moves, entrant, latest, Machine, after, pulsesOf, plain, plainAfter, Course, rest, next, Raisable, Demand3, MeetsDemand3, own}
+use Rattle.rivals.specs.Rivals.{Rival, Raised, Follows, Moves, entrant, latest, Machine, after, pulsesOf, plain, plainAfter, Course, rest, next, Raisable, Demand3, byOpen, MeetsDemand3, own}
 
 -- the machines start from a new group of 3 cells
 abbrev start : Group
@@ -68,7 +68,7 @@ module _ (run : Machine) where
   -- one list of calls is enough
   fails : (cs : List Call) → ¬ (Demand3 run start cs) → ¬ (MeetsDemand3 run)
   unfolding openOf answer numberOf
-  fails cs fault meets = fault (meets 3 refl cs)
+  fails cs fault meets = fault (meets start (byOpen 3 refl) cs)
 
   -- it says worn where a rival can be raised
   worn-refuted : run start call .number ≡ 8 → ¬ (MeetsDemand3 run)
@@ -114,7 +114,7 @@ abbrev otherwise : (Group → Call → Told Step → Told Step) → Machine
 otherwise wrong g c = let t = applyOf g c in cond (writes (c .kind) && eqb (t .number) 0) (wrong g c t) t
 
 -- an answer with another group, and with other pulses
-abbrev altered : (Group → Group) → (ℕ → ℕ) → Told Step → Told Step
+abbrev pub altered : (Group → Group) → (ℕ → ℕ) → Told Step → Told Step
 altered group pulses t =
     let v = t .value in
     record {
@@ -156,7 +156,7 @@ silent-refuted = fails silent (call ∷ []) (λ d. let e = rw (plain-answer .0, 
 
 -- one that pushes to the top (SD 002): going up the target, a cell that is not above the one below it is raised to one more than the highest
 -- level of all cells. From levels 2, 1, 0 it shows [1, 3, 2] by 4, 1, 3, where 3, 1, 2 will do
-toTheTop : List ℕ → List ℕ → List ℕ
+unfoldable pub toTheTop : List ℕ → List ℕ → List ℕ
 toTheTop [] ls = ls
 toTheTop (c ∷ []) ls = ls
 toTheTop (c ∷ d ∷ cs) ls =
@@ -245,7 +245,7 @@ crammer-refuted = fails crammer [] (λ d. let e : _≡_ {A = ℕ} 0 10 = sym (pl
 
 -- one that says worn before it reckons the new levels: where cell 1 stands at its cap or above it. After the write, with cell 1 worn to its level, the
 -- same write raises nothing
-pub hasty : Machine
+unfoldable pub hasty : Machine
 hasty g c = cond (writes (c .kind) && leb (level (g .caps) 1) (level (g .levels) 1)) (record { number = 8; value = quiet g }) (applyOf g c)
 
 abbrev worn-call : Call

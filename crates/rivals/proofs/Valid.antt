@@ -1,6 +1,7 @@
--- Demand 3 speaks of something: from an opened group no list of calls meets the numbers 1 and 2; for every n from 3 to 12 a first write is
--- done, whatever its order (into a lent list where that has n - 1 places or more, and is refused 10 where it has fewer), and a first store, whatever its
--- symbol (there is one: `some-symbol`, code/Laws), and a scrub that comes next; and worn is given too.
+-- Demand 3 speaks of something: from a group that was opened or taken over no list of calls meets the numbers 1 and 2. Of an opened group, for every n from 3
+-- to 12, a first write is done, whatever its order (into a lent list where that has n - 1 places or more, and is refused 10 where it has fewer), and a first
+-- store, whatever its symbol (there is one: `some-symbol`, code/Laws), and a scrub that comes next; and worn is given too. Any group can be taken over as it
+-- stands, but for the mark: `taken-as-it-stands` (take_over/Taken).
 -- Assumes nothing.
 use Prim.Native.Nat.{ℕ, _-_, _<_, _≤_}
 use mathlib.Core.Path.{_≡_, refl, _∙_}
@@ -9,7 +10,6 @@ use mathlib.Core.Bool.{Bool, true, false}
 use mathlib.Core.List.{List, [], _∷_, _++_}
 use native.Mathlib.Omega.{arith}
 use lib.Dec.{lit<}
-use lib.ListN.{length}
 use borrow.Author.Tests.{lt-ltb, le-leb, lt-leb}
 use Rattle.code.specs.Symbols.{wordOf}
 use Rattle.order.specs.declared.Order.{Order}
@@ -18,10 +18,9 @@ use Rattle.order.specs.declared.Refusal.the-variants.{NoOrder, ListShort}
 use Rattle.order.specs.Refusals.{refusalNumber, numberOf, answer, isSize}
 use Rattle.order.specs.Cells.{eachOnce, isOrder, allZero, isListing}
 use Rattle.order.specs.Order.{cellNumbers, listed, isOrderOf, orderRecord, noOrder}
-use Rattle.order.proofs.Cells.{order-true}
 use Rattle.order.proofs.Refusals.{all-hold, check-holds, check-fails, later-decide, size-true}
 use Rattle.order.proofs.Check.{order-parts}
-use Rattle.order.proofs.Records.{record-order}
+use Rattle.order.proofs.Records.{recorded-order}
 use Rattle.coordinates.specs.Coordinates.{orderFrom}
 use Rattle.coordinates.specs.Conversion.{coordinateAt}
 use Rattle.coordinates.proofs.RoundTrip.{order-of-any}
@@ -39,9 +38,9 @@ use Rattle.plain_machine.specs.declared.Kind.{Kind}
 use Rattle.plain_machine.specs.declared.Kind.the-variants.{Write, WriteInto, Store, Scrub, Leak, Wear, Erase, Read}
 use Rattle.plain_machine.specs.declared.Call.{Call}
 use Rattle.plain_machine.specs.Machine.{applyOf, checksBy, checks}
-use Rattle.rivals.specs.Rivals.{after}
+use Rattle.rivals.specs.Rivals.{after, Begun}
 use Rattle.plain_machine.proofs.Machine.{apply-number, done-pushes}
-use Rattle.rivals.proofs.Demand3.{group-after, opened-group}
+use Rattle.rivals.proofs.Demand3.{group-after, begun-group, opened-group}
 
 -- ---- the numbers 1 and 2 never come
 
@@ -70,17 +69,17 @@ module _ (g : Group) (e : numberOf (groupChecks g) ≡ 0) where
   other-by o Read = past _ (lit< tt, (lit< tt, tt))
 
 -- the group after any list of calls passes the checks of a record, and no next call is refused by them
-module _ (n : ℕ) (size : isSize n ≡ true) (cs : List Call) where
-  pub passes-after : numberOf (groupChecks (after applyOf (opened n) cs)) ≡ 0
-  passes-after = group-after (opened n) cs (opened-group n size) .passes
+module _ (g : Group) (b : Begun g) (cs : List Call) where
+  pub passes-after : numberOf (groupChecks (after applyOf g cs)) ≡ 0
+  passes-after = group-after g cs (begun-group b) .passes
 
-  other-after : (c : Call) → Other (applyOf (after applyOf (opened n) cs) c .number)
-  other-after c = rw (apply-number (after applyOf (opened n) cs) c) (other-by (after applyOf (opened n) cs) passes-after (c .target) (c .kind))
+  other-after : (c : Call) → Other (applyOf (after applyOf g cs) c .number)
+  other-after c = rw (apply-number (after applyOf g cs) c) (other-by (after applyOf g cs) passes-after (c .target) (c .kind))
 
-  pub never-size : (c : Call) → applyOf (after applyOf (opened n) cs) c .number ≢ 1
+  pub never-size : (c : Call) → applyOf (after applyOf g cs) c .number ≢ 1
   never-size c e = ⊎-elim (λ z. omega arith) (λ z. omega arith) (other-after c)
 
-  pub never-no-group : (c : Call) → applyOf (after applyOf (opened n) cs) c .number ≢ 2
+  pub never-no-group : (c : Call) → applyOf (after applyOf g cs) c .number ≢ 2
   never-no-group c e = ⊎-elim (λ z. omega arith) (λ z. omega arith) (other-after c)
 
 -- ---- every order fits an opened group
@@ -131,12 +130,7 @@ module _ (n : ℕ) (size : isSize n ≡ true) where
 
   -- such an order is there: 1 to n
   pub some-order : isOrderOf n (orderRecord (orderFrom (λ i. 0) n)) ≡ true
-  some-order =
-      let xs = orderFrom (λ i. 0) n in
-      let t = order-of-any (λ i. 0) n in
-      let long : length xs ≡ n = order-true n xs t .size in
-      let whole : isOrder (length xs) xs ≡ true = rw long t in
-      rw long at (record-order xs (omega (arith, size-true n size .1)) (rw long size) ∙ whole)
+  some-order = let s = size-true n size in recorded-order n (orderFrom (λ i. 0) n) (order-of-any (λ i. 0) n) (s .0) (s .1)
 
   module _ (s : ℕ) (l : s < K n) where
     word-passes : numberOf (pushChecks (opened n) (wordOf n s)) ≡ 0

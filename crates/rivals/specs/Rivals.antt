@@ -1,5 +1,6 @@
--- Document 01, "The rivals of demand 3", and demand 3: one claim about every list of calls on one group.
--- The claim is about any machine that answers calls. That ours meets it is the theorem `demand3-open` (proofs/Demand3) about `applyOf`, which is
+-- Document 01, "The rivals of demand 3", and demand 3: one claim about every list of calls on one group. By document 02, request (e), a list may also
+-- begin from a group that was taken over, and rivals then start at its levels.
+-- The claim is about any machine that answers calls. That ours meets it is the theorem `demand3-begun` (proofs/Demand3) about `applyOf`, which is
 -- the whole answer of the public function `apply` by its contract. Of a machine's answers it speaks of the number, the pulses and the group: of
 -- the group's levels and caps beside the rivals', and of the whole record by the checks that apply to it at the call that comes next. None
 -- of these is left open along a list (proofs/Determined). The symbol, the verdict and the pushes are fixed by the contracts alone.
@@ -17,6 +18,7 @@
 --   entrant g           at first it has the levels and caps of the record that the list starts from, and no pulses
 --   latest r ss         where a rival stands that was at r and came to these states since
 --   plainAfter          the plain machine's group after one call: it goes with the accepted ones
+--   Begun g             the record g is what an accepted open returned, or an accepted take-over: a list of calls may begin with it
 --   Machine             the claim is about it: it answers a call on a record
 --   after, pulsesOf     its group after the calls, each handed the record as the call before left it, and what its answers add up to
 --   plain               the plain machine's group after the calls: it has had the same start and the same accepted calls
@@ -26,7 +28,7 @@
 --                       the rises of its levels
 --   Raisable            some rival so far can be raised to show t within the caps
 --   Demand3 g cs        the parts of demand 3, of a machine that starts from the group g and has had the calls cs
---   MeetsDemand3        the whole of demand 3: of every list of calls, from the record that an accepted open returned
+--   MeetsDemand3        the whole of demand 3: of every list of calls, from a record with which a list may begin
 use Prim.Native.Nat.{ℕ, zero, suc, _+_, _≤_}
 use mathlib.Core.Path.{_≡_}
 use mathlib.Core.Logic.{_↔_}
@@ -38,6 +40,7 @@ use Rattle.group.specs.declared.Group.{Group}
 use Rattle.group.specs.Levels.{put, AtMost, rises, leaked}
 use Rattle.push_up.specs.PushUp.{singles, Shows}
 use Rattle.group.specs.Changes.{openOf}
+use Rattle.take_over.specs.TakeOver.{takeOverOf}
 use Rattle.plain_machine.specs.declared.Kind.{Kind}
 use Rattle.plain_machine.specs.declared.Kind.the-variants.{Write, WriteInto, Store, Scrub, Leak, Wear, Erase, Read}
 use Rattle.plain_machine.specs.declared.Call.{Call}
@@ -89,6 +92,10 @@ latest r (s ∷ ss) = latest s ss
 -- the plain machine's group p after a call that was answered with this number
 unfoldable pub plainAfter : ℕ → Group → Call → Group
 plainAfter number p c = ifDone number (applyOf p c .value .group) p
+
+pub data Begun : Group → Type 0 where
+  byOpen : (n : ℕ) → openOf n .number ≡ 0 → Begun (openOf n .value)
+  byTakeOver : (n : ℕ) (levels caps : List ℕ) → takeOverOf n levels caps .number ≡ 0 → Begun (takeOverOf n levels caps .value)
 
 abbrev pub Machine : Type 0
 Machine = Group → Call → Told Step
@@ -146,4 +153,4 @@ module _ (run : Machine) where
         → (run (after g cs) c .number ≡ 8) ↔ (¬ (Raisable g cs (target (plain g g cs) c)))
 
   abbrev pub MeetsDemand3 : Type 0
-  MeetsDemand3 = (n : ℕ) → openOf n .number ≡ 0 → (cs : List Call) → Demand3 (openOf n .value) cs
+  MeetsDemand3 = (g : Group) → Begun g → (cs : List Call) → Demand3 g cs
