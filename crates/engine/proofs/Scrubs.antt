@@ -71,7 +71,7 @@ module _ (g : Group) (d : numberOf (readChecks g) ≡ 0) where
   unfolding readingAt symbolOf wordOf
   symbol-word = number-of-codeword (g .n) pos (wordFound g) found-order found-codeword
 
-  symbol-low : readingOf g .symbol < K (g .n)
+  pub symbol-low : readingOf g .symbol < K (g .n)
   unfolding readingAt symbolOf
   symbol-low = number-below (g .n) pos _ (codeword-word (g .n) pos (wordFound g) found-order found-codeword)
 

@@ -66,7 +66,7 @@ module _ (g : Group) (o : Order) where
     -- ---- the pushes in the list
 
     -- as many as the answer counts are those of the answer by value
-    list-counted : let p = writeIntoOf g o (length list) .value in counted (p .count) (listAfter g o list) ≡ counted (p .count) (p .pushes)
+    pub list-counted : let p = writeIntoOf g o (length list) .value in counted (p .count) (listAfter g o list) ≡ counted (p .count) (p .pushes)
     unfolding writeIntoOf listAfter answer pushed
     list-counted =
         let program = pushes 1 (singles (listed o)) (g .levels) in

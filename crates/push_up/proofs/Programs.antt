@@ -33,7 +33,7 @@ pub data Runs : List Push → List ℕ → List ℕ → Type 0 where
   next : {p : Push} {ps : List Push} {ls ms : List ℕ} → p .cell .0 - 1 < length ls → p .start ≡ level ls (p .cell .0) → p .start < p .reach
       → Runs ps (put ls (p .cell .0) (p .reach)) ms → Runs (p ∷ ps) ls ms
 
-runs-played : {ps : List Push} {ls ms : List ℕ} → Runs ps ls ms → played ps ls ≡ ms
+pub runs-played : {ps : List Push} {ls ms : List ℕ} → Runs ps ls ms → played ps ls ≡ ms
 unfolding played
 runs-played rest = refl
 runs-played (next i s l k) = runs-played k

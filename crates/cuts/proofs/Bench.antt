@@ -1,0 +1,81 @@
+-- Worked cases of cuts and of take-overs, about the definitions, in the records of the table of starred cases (rivals, specs Starred).
+-- Assumes nothing.
+use mathlib.Core.Path.{_≡_, refl}
+use mathlib.Core.Bool.{true, false}
+use mathlib.Core.List.{[], _∷_}
+use mathlib.Core.Option.{none, some}
+use Rattle.order.specs.Refusals as refusals
+use Rattle.order.specs.Cells.{eachOnce, isOrder, allZero, isListing}
+use Rattle.order.specs.Order.{cellNumbers, isOrderOf}
+use Rattle.coordinates.specs.Coordinates.{coordinateOf, coordinatesTo, orderFrom}
+use Rattle.decoder.specs.Decoding.{weight, leaves, isCodeword, firstBelow, correction}
+use Rattle.code.specs.declared.Verdict.the-variants.{Clean, PutRight}
+use Rattle.code.specs.Words.{joined, select, same, indexOf, vectorsFrom, vectors, words, K, wordAt, wordNumber, symbolOf}
+use Rattle.code.specs.Symbols.{wordOf, readingAt}
+use Rattle.group.specs.Levels.{level, put, atMost}
+use Rattle.group.specs.Record.{allAtMost, isRow, noGroup}
+use Rattle.push_up.specs.PushUp.{singles, top, floorOver, lift, raise, pushOf, rankPushes, pushes, pulsesIn}
+use Rattle.push_up.specs.PushProgram.{played}
+use Rattle.push_up.specs.WriteAnswer.{raised, fits, pushed, writeOf}
+use Rattle.take_over.specs.TakeOver.{isMeasured, takeOverOf}
+use Rattle.sensing.specs.Sense.{standsAbove, insert, sorted, sensed}
+use Rattle.engine.specs.ReadStore.{readOf, storeOf}
+use Rattle.engine.specs.Scrub.{scrubOf}
+use Rattle.plain_machine.specs.declared.Kind.the-variants.{Write, Store, Scrub}
+use Rattle.plain_machine.specs.declared.Call.{Call}
+use Rattle.plain_machine.specs.Machine.{applyOf}
+use Rattle.rivals.specs.Starred.{order, capped, group, push, step, done, refused}
+use Rattle.cuts.specs.Cuts.{Cut, levelsAt, pulsesAt, programOf, takenAt}
+
+-- ---- document 01's case 1: levels (3,4,2,1), write [2,1,4,3] for 4 pulses, cut where cell 4 stands at 2, and the repair where cell 1 has reached 4
+
+abbrev write : Call
+write = record { kind = Write; target = order (2 ∷ 1 ∷ 4 ∷ 3 ∷ []) }
+
+abbrev first : Cut
+first = record { done = 0; level = 2 }
+
+abbrev second : Cut
+second = record { done = 1; level = 4 }
+
+pub case-1-cut :
+    (applyOf (group false (3 ∷ 4 ∷ 2 ∷ 1 ∷ [])) write ≡ done (step (group true (4 ∷ 5 ∷ 2 ∷ 3 ∷ [])) 0 none 4 (push 4 1 3 ∷ push 1 3 4 ∷ push 2 4 5 ∷ [])))
+    × (pulsesAt (programOf applyOf (group false (3 ∷ 4 ∷ 2 ∷ 1 ∷ [])) write) first ≡ 1)
+    × (takenAt applyOf (group false (3 ∷ 4 ∷ 2 ∷ 1 ∷ [])) write first ≡ done (group true (3 ∷ 4 ∷ 2 ∷ 2 ∷ [])))
+    × (applyOf (group true (3 ∷ 4 ∷ 2 ∷ 2 ∷ [])) write ≡ done (step (group true (4 ∷ 5 ∷ 2 ∷ 3 ∷ [])) 0 none 3 (push 4 2 3 ∷ push 1 3 4 ∷ push 2 4 5 ∷ [])))
+    × (pulsesAt (programOf applyOf (group true (3 ∷ 4 ∷ 2 ∷ 2 ∷ [])) write) second ≡ 2)
+    × (takenAt applyOf (group true (3 ∷ 4 ∷ 2 ∷ 2 ∷ [])) write second ≡ done (group true (4 ∷ 4 ∷ 2 ∷ 3 ∷ [])))
+    × (applyOf (group true (4 ∷ 4 ∷ 2 ∷ 3 ∷ [])) write ≡ done (step (group true (4 ∷ 5 ∷ 2 ∷ 3 ∷ [])) 0 none 1 (push 2 4 5 ∷ [])))
+unfolding refusals.answer refusals.numberOf isRow allAtMost isMeasured takeOverOf takenAt levelsAt pulsesAt played cellNumbers isOrderOf isListing isOrder eachOnce allZero level put atMost singles top floorOver lift raise pushOf rankPushes pushes pulsesIn raised fits pushed writeOf applyOf
+case-1-cut = (refl, refl, refl, refl, refl, refl, refl)
+
+-- ---- a scrub is no repair. A store of 0, cut before its first push, leaves a group that reads as 1, clean, and a scrub makes it so. A scrub that is to write
+-- [4, 3, 2, 1], cut after its first push, leaves one that reads as [2, 4, 1, 3], put right, and the same scrub writes that
+
+abbrev store : Call
+store = record { kind = Store 0; target = order [] }
+
+abbrev scrub : Call
+scrub = record { kind = Scrub; target = order [] }
+
+pub scrub-misled :
+    (takenAt applyOf (group false (0 ∷ 0 ∷ 0 ∷ [])) store (record { done = 0; level = 0 }) ≡ done (group true (0 ∷ 0 ∷ 0 ∷ [])))
+    × (applyOf (group true (0 ∷ 0 ∷ 0 ∷ [])) scrub ≡ done (step (group true (0 ∷ 1 ∷ 2 ∷ [])) 1 (some Clean) 3 (push 2 0 1 ∷ push 3 0 2 ∷ [])))
+    × (applyOf (group true (0 ∷ 0 ∷ 0 ∷ [])) store ≡ done (step (group true (2 ∷ 1 ∷ 0 ∷ [])) 0 none 3 (push 2 0 1 ∷ push 1 0 2 ∷ [])))
+    × (applyOf (group true (0 ∷ 0 ∷ 0 ∷ 0 ∷ [])) scrub ≡ done (step (group true (0 ∷ 1 ∷ 2 ∷ 3 ∷ [])) 3 (some Clean) 6 (push 2 0 1 ∷ push 3 0 2 ∷ push 4 0 3 ∷ [])))
+    × (takenAt applyOf (group true (0 ∷ 0 ∷ 0 ∷ 0 ∷ [])) scrub (record { done = 1; level = 0 }) ≡ done (group true (0 ∷ 1 ∷ 0 ∷ 0 ∷ [])))
+    × (applyOf (group true (0 ∷ 1 ∷ 0 ∷ 0 ∷ [])) scrub ≡ done (step (group true (1 ∷ 3 ∷ 0 ∷ 2 ∷ [])) 2 (some (PutRight (record { 0 = 3 }))) 5 (push 1 0 1 ∷ push 4 0 2 ∷ push 2 1 3 ∷ [])))
+unfolding refusals.answer refusals.numberOf isRow allAtMost isMeasured takeOverOf takenAt levelsAt played level put atMost singles top floorOver lift raise pushOf rankPushes pushes pulsesIn raised fits pushed storeOf scrubOf applyOf wordOf orderFrom K wordAt words vectors vectorsFrom joined select leaves weight standsAbove insert sorted sensed readOf readingAt correction firstBelow isCodeword symbolOf wordNumber indexOf same coordinatesTo coordinateOf
+scrub-misled = (refl, refl, refl, refl, refl, refl)
+
+-- ---- take-overs: a cap below its level is taken over; a list of another length, a value above 4,095 and a size that no group has are not
+
+pub take-overs :
+    (takeOverOf 3 (5 ∷ 0 ∷ 4095 ∷ []) (4 ∷ 1 ∷ 0 ∷ []) ≡ done (capped true (5 ∷ 0 ∷ 4095 ∷ []) (4 ∷ 1 ∷ 0 ∷ [])))
+    × (takeOverOf 3 (0 ∷ 0 ∷ []) (1 ∷ 1 ∷ 1 ∷ []) ≡ refused 17 noGroup)
+    × (takeOverOf 3 (0 ∷ 0 ∷ 0 ∷ []) (1 ∷ 1 ∷ 1 ∷ 0 ∷ []) ≡ refused 17 noGroup)
+    × (takeOverOf 3 (0 ∷ 0 ∷ 4096 ∷ []) (1 ∷ 1 ∷ 1 ∷ []) ≡ refused 17 noGroup)
+    × (takeOverOf 3 (0 ∷ 0 ∷ 0 ∷ []) (4096 ∷ 1 ∷ 1 ∷ []) ≡ refused 17 noGroup)
+    × (takeOverOf 2 (0 ∷ 0 ∷ 4096 ∷ []) (1 ∷ 1 ∷ []) ≡ refused 1 noGroup)
+unfolding refusals.answer refusals.numberOf allAtMost isMeasured takeOverOf
+take-overs = (refl, refl, refl, refl, refl, refl)

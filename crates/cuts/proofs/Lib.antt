@@ -1,0 +1,5 @@
+pub mod Cuts
+pub mod Repairs
+pub mod Again
+pub mod Refuted
+pub mod Bench
