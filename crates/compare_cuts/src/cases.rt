@@ -1,0 +1,85 @@
+// The groups and the calls that are cut.
+use crate::cuts::compared;
+use comparing::sample;
+use comparing::tally::Tally;
+use comparing::tally::none;
+use group::Group;
+use plain_machine::Call;
+use plain_machine::Kind;
+ghost use Prim.Native.Nat.{_<_};
+
+// Three digits of k, the lowest first.
+fn digits(k: usize, base: usize) -> [u16; 12]
+    requires { ⌜ 0 < base ⌝ }
+{
+    let mut row = [0u16; 12];
+    let mut left = k;
+    for i in 0..3 {
+        row[i] = sample::narrow(left % base);
+        left = left / base;
+    }
+    row
+}
+
+// A group of 3 cells: its levels are three digits of k to base 3, its caps three more to base 4, and its mark what is left.
+fn small(k: usize) -> Group {
+    Group {
+        n: 3,
+        levels: digits(k, 3),
+        caps: digits(k / 27, 4),
+        written: k / 1728 == 1,
+    }
+}
+
+// Every small group, and each of the six orders written to it.
+pub fn every_small() -> Tally {
+    let mut t = none();
+    for k in 0..20736 {
+        let call = Call {
+            kind: Kind::Write,
+            target: sample::order_at(3, k % 6),
+        };
+        t = compared(t, small(k / 6), call, call, k);
+    }
+    t
+}
+
+// After a cut the word that the scrub found is written: what is half written may read as another one.
+fn scrubbed(t: Tally, g: Group, s: usize) -> Tally {
+    let found = naive_calls::machine::reading(g);
+    let target = found.word;
+    let call = Call {
+        kind: Kind::Scrub,
+        target,
+    };
+    let again = Call {
+        kind: Kind::Write,
+        target,
+    };
+    compared(t, g, call, again, s)
+}
+
+// 320 sampled groups of each size: 80 are scrubbed, 20 stored to, and 220 written to.
+pub fn sampled() -> Tally {
+    let mut t = none();
+    for k in 0..3200 {
+        let s = 1000 * k;
+        let n = 3 + k / 320;
+        let g = sample::group(n, s);
+        if k % 4 == 1 {
+            t = scrubbed(t, g, s);
+        } else {
+            let kind = if k % 16 == 0 {
+                Kind::Store(sample::symbol(n, s))
+            } else {
+                Kind::Write
+            };
+            let call = Call {
+                kind,
+                target: sample::target(n, s),
+            };
+            t = compared(t, g, call, call, s);
+        }
+    }
+    t
+}

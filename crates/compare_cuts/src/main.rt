@@ -1,0 +1,29 @@
+// Runs the engine and the second implementation, `naive`, on lists that a group is taken over from, and on calls that are cut in the middle of their
+// push programs (document 02, request (e)). Prints for each part what `compare_calls` does; at each stands how many comparisons it must make, and
+// which numbers must come.
+mod cases;
+mod cuts;
+mod take_overs;
+
+use comparing::report;
+use comparing::report::part;
+
+fn main() {
+    let mut r = report::empty();
+    // 19 sizes, lists of 0 to 14 levels and of 0 to 14 caps, and at each of 12 places 4 values in the levels and 4 in the caps. Nine of the sizes are
+    // refused 1. With any other, n, lists of n values are taken over, but for 12 of the 16 pairs at one of the first n places: 1,920 - 12 * (3 + .. +
+    // 12). All else is refused 17.
+    r = part(r, b"take-overs, lists to ", 14, take_overs::every_edge());
+    // 27 levels, 64 caps, 2 marks and 6 orders: of these 20,736 writes 2,664 are accepted, and all else is refused 8. They have 11,160 cuts: one for
+    // each level of each push, from its start to its reach, and the end. 8 comparisons at each, all done.
+    r = part(
+        r,
+        b"every cut of every small write, n = ",
+        3,
+        cases::every_small(),
+    );
+    // 3,200 calls, of which 119 are refused 4, 32 refused 5, 105 refused 6, 291 refused 7 and 353 refused 8; the others have 105,813 cuts that are tried, 8
+    // comparisons at each, all done.
+    r = part(r, b"cuts of sampled calls, n = 3 to ", 12, cases::sampled());
+    report::total(r);
+}
