@@ -4,14 +4,13 @@ use Prim.Native.Nat.{ℕ, suc, _-_, _≤_, _<_}
 use native.Mathlib.Omega.{arith}
 use mathlib.Core.Path.{_≡_, sym, _∙_}
 use mathlib.Core.Bool.{true}
-use mathlib.Core.Logic.{⊎-elim}
 use mathlib.Core.List.{List}
 use lib.ListN.{length, getD}
 use lib.IntN.{ℤ, pos}
 use lib.Signed.{_≤ℤ_}
 use Rattle.order.specs.Cells.{placeOf, isOrder}
-use Rattle.order.proofs.Cells.{IsOrder, order-true, order-count, order-range, lt-cases}
-use Rattle.order.proofs.Places.{Stands, stands, inverseTo, length-inverse, inverse-at, inverse-order, place-past}
+use Rattle.order.proofs.Cells.{order-true}
+use Rattle.order.proofs.Places.{cell-stands, rank-high, inverseTo, length-inverse, inverse-at, inverse-order}
 use Rattle.order.proofs.Tabulate.{length-tabulate, getD-tabulate}
 use Rattle.cost.specs.Cost.{displacement, displacements, cost}
 use Rattle.cost.proofs.Signs.{≤ℤ-trans, sub-positive}
@@ -51,27 +50,13 @@ module _ (n : ℕ) (u v : List ℕ) where
         there = sym (displacement-at (f .place) i) ∙ f .there;
       }
 
--- ---- ranks
-
-module _ (n : ℕ) (u : List ℕ) (o : IsOrder n u) where
-  -- no rank is above n
-  pub rank-high : (k : ℕ) → placeOf u (suc k) ≤ n
-  rank-high k =
-      ⊎-elim (λ t. rw (inverse-at n u k (t .0)) at (order-range n (inverseTo n u) (inverse-order n u o) k (t .0) .1))
-      (λ t. omega (arith, place-past n u o k (t .0)))
-      (lt-cases k n)
-
-  -- the cell of the last place
-  lowest : 1 ≤ n → Stands 1 n (inverseTo n u)
-  lowest l =
-      let e : suc (n - 1) ≡ n = omega arith in
-      stands 1 n (inverseTo n u) (omega (arith, rw e at (order-count n (inverseTo n u) (inverse-order n u o) (n - 1) (omega arith))))
+-- ---- it is not negative
 
 -- the cell in the last place of v has rank n, which is at least its rank in u
 pub cost-at-least-zero : (n : ℕ) (u v : List ℕ) → 1 ≤ n → isOrder n u ≡ true → isOrder n v ≡ true → pos 0 ≤ℤ cost n u v
 unfolding displacement
 cost-at-least-zero n u v l p q =
-    let s = lowest n v (order-true n v q) l in
+    let s = cell-stands n (inverseTo n v) (inverse-order n v (order-true n v q)) n l (omega arith) in
     let i : s .index < n = omega (arith, s .inside, length-inverse n v) in
     let r : placeOf v (suc (s .index)) ≡ n = sym (inverse-at n v (s .index) i) ∙ s .there in
     ≤ℤ-trans

@@ -17,6 +17,7 @@ use Rattle.order.specs.Cells.{placeOf}
 use Rattle.order.specs.Order.{listed, orderChecks, pairChecks}
 use Rattle.ranks.specs.Ranks.{rankNumbers, ranksOf, noRanks, toldRanks, ranksOfOrder}
 use Rattle.order.proofs.Cells.{lt-cases}
+use Rattle.order.proofs.Places.{rank-high}
 use Rattle.order.proofs.Refusals.{outcome-by-number, accepted, told-done}
 use Rattle.ranks.proofs.RankNumbers.{rank-at, length-ranks}
 use Rattle.order.proofs.Tabulate.{length-tabulate, getD-tabulate}
@@ -24,7 +25,6 @@ use Rattle.order.proofs.Records.{passed, passed-order}
 use Rattle.order.proofs.Pairs.{passed-first, passed-second, pair-size}
 use Rattle.cost.specs.declared.RanksPair.{RanksPair}
 use Rattle.cost.specs.Steps.{toldPair, ranksOfPair, Low}
-use Rattle.cost.proofs.Costs.{rank-high}
 
 -- ---- the ranks
 

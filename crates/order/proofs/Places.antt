@@ -42,12 +42,13 @@ stands p c (x ∷ xs) l =
     more : eqb c x ≡ false → Stands (suc p) c xs → Stands p c (x ∷ xs)
     more e s = record { index = suc (s .index); inside = omega (arith, s .inside); place = rw e (s .place ∙ omega arith); there = s .there }
 
--- an element that is listed once stands at its own place
-count-at : (i : ℕ) (xs : List ℕ) → i < length xs → 1 ≤ count (getD xs i 0) xs
+-- what stands in a list is listed
+pub count-at : (i : ℕ) (xs : List ℕ) → i < length xs → 1 ≤ count (getD xs i 0) xs
 count-at i [] l = absurd (not-suc-le-zero l)
 count-at zero (x ∷ xs) l = omega (arith, tally-eq x x refl)
 count-at (suc i) (x ∷ xs) l = omega (arith, count-at i xs (le-of-suc-le-suc l))
 
+-- an element that is listed once stands at its own place
 place-at : (p i : ℕ) (xs : List ℕ) → i < length xs → count (getD xs i 0) xs ≡ 1 → placeFrom p xs (getD xs i 0) ≡ p + i
 unfolding placeFrom
 place-at p i [] l o = absurd (not-suc-le-zero l)
@@ -90,6 +91,20 @@ module _ (n : ℕ) (xs : List ℕ) (o : IsOrder n xs) where
   pub place-past : (k : ℕ) → n ≤ k → placeOf xs (suc k) ≡ 0
   unfolding placeOf
   place-past k l = place-none 1 (suc k) xs (order-past n xs o k l)
+
+  -- a number of 1 to n stands at its place
+  pub cell-stands : (c : ℕ) → 1 ≤ c → c ≤ n → Stands 1 c xs
+  cell-stands c low high =
+      let e : suc (c - 1) ≡ c = omega arith in
+      stands 1 c xs (omega (arith, rw e at (order-count n xs o (c - 1) (omega arith))))
+
+  -- no place is above n
+  pub rank-high : (k : ℕ) → placeOf xs (suc k) ≤ n
+  unfolding placeOf
+  rank-high k =
+      ⊎-elim (λ t. let s = cell-stands (suc k) (omega arith) (t .0) in omega (arith, s .place, s .inside, o .size))
+      (λ t. omega (arith, place-past k (t .0)))
+      (lt-cases k n)
 
   pub inverse-order : IsOrder n (inverseTo n xs)
   unfolding inverseTo

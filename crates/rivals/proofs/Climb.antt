@@ -1,6 +1,6 @@
 -- The minimal push-up along an order: how high its first cell comes, and that this cell is the highest.
 -- Assumes nothing.
-use Prim.Native.Nat.{ℕ, zero, suc, _+_, _-_, _≤_, _<_, max}
+use Prim.Native.Nat.{ℕ, zero, suc, _+_, _≤_, _<_, max}
 use native.Mathlib.Nat.{le-refl, max-zero}
 use native.Mathlib.Omega.{arith}
 use mathlib.Core.Path.{_≡_, refl, sym, ap}
@@ -10,8 +10,8 @@ use mathlib.Core.List.{List, [], _∷_}
 use lib.ListN.{length, getD}
 use borrow.Author.Tests.{eq-eqb, ne-eqb}
 use Rattle.order.specs.Cells.{count, placeFrom, isOrder}
-use Rattle.order.proofs.Cells.{order-true, order-count, lt-cases, eq-cases, tally-eq, tally-ne}
-use Rattle.order.proofs.Places.{Stands, stands}
+use Rattle.order.proofs.Cells.{order-true, lt-cases, eq-cases, tally-eq, tally-ne}
+use Rattle.order.proofs.Places.{cell-stands}
 use Rattle.group.specs.Levels.{level}
 use Rattle.push_up.specs.PushUp.{singles, top, floorOver, lift, raise}
 use Rattle.group.proofs.Levels.{level-put, at-most-length}
@@ -115,15 +115,9 @@ falling-first xs ls f zero l = le-refl _
 falling-first xs ls f (suc i) l = omega (arith, f i l, falling-first xs ls f i (omega arith))
 
 module _ (n : ℕ) (v : List ℕ) (q : isOrder n v ≡ true) where
-  -- a cell of 1 to n stands in the order at its place
-  pub cell-stands : (c : ℕ) → 1 ≤ c → c ≤ n → Stands 1 c v
-  cell-stands c low high =
-      let e : suc (c - 1) ≡ c = omega arith in
-      stands 1 c v (omega (arith, rw e at (order-count n v (order-true n v q) (c - 1) (omega arith))))
-
   pub first-highest : (ls : List ℕ) → n ≤ length ls → (c : ℕ) → 1 ≤ c → c ≤ n
       → level (raise 1 (singles v) ls) c ≤ level (raise 1 (singles v) ls) (getD v 0 0)
   first-highest ls l c low high =
-      let s = cell-stands c low high in
+      let s = cell-stands n v (order-true n v q) c low high in
       let new = raise 1 (singles v) ls in
       omega (arith, ap (level new) (s .there), falling-first v new (shows-falling 1 v new (order-shows 1 n v ls q l)) (s .index) (s .inside))

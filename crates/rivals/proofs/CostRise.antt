@@ -15,6 +15,7 @@ use lib.IntN.{pos, subℕ}
 use lib.Signed.{_≤ℤ_}
 use Rattle.order.specs.Cells.{tabulate, placeOf, isOrder}
 use Rattle.order.proofs.Cells.{IsOrder, order-true, order-count, order-range}
+use Rattle.order.proofs.Places.{cell-stands}
 use Rattle.order.proofs.Tabulate.{length-tabulate, getD-tabulate}
 use Rattle.cost.specs.Cost.{displacement, cost}
 use Rattle.cost.proofs.Signs.{≤ℤ-antisym, sub-rise, sub-most}
@@ -26,7 +27,7 @@ use Rattle.push_up.proofs.Minimal.{raise-above}
 use Rattle.push_up.proofs.Orders.{CellsOf, order-cells}
 use Rattle.push_up.proofs.Stairs.{stairs, stairs-at}
 use Rattle.rivals.specs.Rise.{topLevel, written, Staircase}
-use Rattle.rivals.proofs.Climb.{listed-range, Peak, raise-peak, cell-stands, first-highest}
+use Rattle.rivals.proofs.Climb.{listed-range, Peak, raise-peak, first-highest}
 
 -- ---- the top level
 
@@ -71,7 +72,7 @@ module _ (n : ℕ) (u : List ℕ) (p : isOrder n u ≡ true) where
   stair-rank : (ls : List ℕ) → Staircase n u ls → (c : ℕ) → 1 ≤ c → c ≤ n → level ls c + placeOf u c ≡ suc n
   unfolding placeOf
   stair-rank ls s c low high =
-      let t = cell-stands n u p c low high in
+      let t = cell-stands n u o c low high in
       omega (arith, ap (level ls) (t .there), s .along (t .index) (omega (arith, t .inside, o .size)), t .place, t .inside, o .size)
 
   -- there are levels n down to 1
@@ -97,7 +98,7 @@ module _ (n : ℕ) (u v ls : List ℕ) (low : 1 ≤ n) (p : isOrder n u ≡ true
   top-before =
       let r = order-range n u ou 0 low in
       let e : level ls (getD u 0 0) ≡ n = s .along 0 low ∙ omega arith in
-      top-is n ls (getD u 0 0) (r .0) (r .1) (λ c l m. omega (arith, stair-rank n u p ls s c l m, cell-stands n u p c l m .place)) ∙ e
+      top-is n ls (getD u 0 0) (r .0) (r .1) (λ c l m. omega (arith, stair-rank n u p ls s c l m, cell-stands n u ou c l m .place)) ∙ e
 
   -- after it the first cell of v is
   pub top-after : topLevel n (written v ls) ≡ level (written v ls) (getD v 0 0)

@@ -14,12 +14,12 @@ use Rattle.order.specs.Refusals.{numberOf, answer}
 use Rattle.order.specs.Cells.{placeOf, isOrder}
 use Rattle.order.specs.Order.{listed, isOrderOf, pairChecks}
 use Rattle.order.proofs.Cells.{order-true}
+use Rattle.order.proofs.Places.{cell-stands, rank-high}
 use Rattle.order.proofs.Check.{order-parts}
 use Rattle.order.proofs.Refusals.{later-decide, check-holds}
 use Rattle.order.proofs.Records.{passed}
 use Rattle.order.proofs.Pairs.{same-length, passed-second, pair-size, first-order, second-order}
 use Rattle.cost.specs.Cost.{cost, costOf}
-use Rattle.cost.proofs.Costs.{rank-high}
 use Rattle.group.specs.declared.Group.{Group}
 use Rattle.group.specs.Levels.{AtMost}
 use Rattle.group.specs.Record.{groupChecks, opened, programmed}
@@ -28,7 +28,6 @@ use Rattle.group.proofs.LevelRows.{row-below, full-row}
 use Rattle.group.proofs.Checks.{rules-hold, checked-size}
 use Rattle.push_up.proofs.Stairs.{stairs, at-most-tabulate, length-stairs, stairs-low, stairs-fit}
 use Rattle.push_up.proofs.Writes.{write-accepted}
-use Rattle.rivals.proofs.Climb.{cell-stands}
 use Rattle.rivals.specs.Rise.{topLevel, written, Staircase}
 use Rattle.rivals.proofs.CostRise.{stairs-fall, cost-is-rise}
 
@@ -70,7 +69,7 @@ stairs-above : (n : ℕ) (u v : List ℕ) → isOrder n u ≡ true → isOrder n
 unfolding stairs placeOf
 stairs-above n u v p q =
     at-most-tabulate n _ _ (replicate (12 - n) 0)
-    (λ k l. omega (arith, cell-stands n u p (suc k) (omega arith) l .place, rank-high n v (order-true n v q) k))
+    (λ k l. omega (arith, cell-stands n u (order-true n u p) (suc k) (omega arith) l .place, rank-high n v (order-true n v q) k))
 
 -- it accepts v
 pub stairs-written : (u v : Order) → costOf u v .number ≡ 0 → writeOf (stairGroup u) v .number ≡ 0
