@@ -11,8 +11,8 @@ use lib.Dec.{T, eqb}
 use lib.ListN.{length, getD, replicate, length-replicate}
 use borrow.Author.Tests.{eqb-true, eq-eqb, le-leb}
 use Rattle.order.proofs.Cells.{both}
-use Rattle.coordinates.specs.Coordinates.{limit, inRange}
-use Rattle.decoder.specs.Decoding.{modulus, weight, leaves}
+use Rattle.coordinates.specs.Coordinates.{weight, limit, inRange}
+use Rattle.decoder.specs.Decoding.{modulus, leaves}
 use Rattle.code.specs.Words.{select, vectorsFrom, vectors, words, K, wordAt, wordNumber}
 use Rattle.code.specs.Tails.{tails, Entry, Block}
 use Rattle.code.specs.Steps.{isWord}

@@ -10,9 +10,9 @@ use lib.Dec.{T, leb, eqb→eq}
 use lib.ListN.{length, getD, length-map}
 use borrow.Author.Tests.{ne-eqb, leb-true, le-leb}
 use Rattle.order.proofs.Cells.{both}
-use Rattle.coordinates.specs.Coordinates.{limit, inRange}
+use Rattle.coordinates.specs.Coordinates.{weight, limit, inRange}
 use Rattle.coordinates.proofs.Range.{limit-low}
-use Rattle.decoder.specs.Decoding.{weight, leaves}
+use Rattle.decoder.specs.Decoding.{leaves}
 use Rattle.code.specs.Words.{joined, select, vectorsFrom, same, indexOf}
 use Rattle.code.specs.Tails.{sumBelow, owed, nothing, tailsFrom}
 use Rattle.code.proofs.Residue.{shift}

@@ -1,5 +1,6 @@
 pub mod Range
 pub mod RoundTrip
+pub mod WeightedSum
 pub mod Mask
 pub mod Counting
 pub mod Insert

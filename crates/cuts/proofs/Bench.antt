@@ -7,8 +7,8 @@ use mathlib.Core.Option.{none, some}
 use Rattle.order.specs.Refusals as refusals
 use Rattle.order.specs.Cells.{eachOnce, isOrder, allZero, isListing}
 use Rattle.order.specs.Order.{cellNumbers, isOrderOf}
-use Rattle.coordinates.specs.Coordinates.{coordinateOf, coordinatesTo, orderFrom}
-use Rattle.decoder.specs.Decoding.{weight, leaves, isCodeword, firstBelow, correction}
+use Rattle.coordinates.specs.Coordinates.{coordinateOf, coordinatesTo, weight, orderFrom}
+use Rattle.decoder.specs.Decoding.{leaves, isCodeword, firstBelow, correction}
 use Rattle.code.specs.declared.Verdict.the-variants.{Clean, PutRight}
 use Rattle.code.specs.Words.{joined, select, same, indexOf, vectorsFrom, vectors, words, K, wordAt, wordNumber, symbolOf}
 use Rattle.code.specs.Symbols.{wordOf, readingAt}

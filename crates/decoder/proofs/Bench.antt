@@ -6,8 +6,8 @@ use mathlib.Core.List.{[], _∷_}
 use Rattle.order.specs.Refusals as refusals
 use Rattle.order.specs.Cells.{eachOnce, isOrder, allZero, isListing}
 use Rattle.order.specs.Order.{cellNumbers, isOrderOf, orderRecord}
-use Rattle.coordinates.specs.Coordinates.{coordinateOf, coordinatesTo}
-use Rattle.decoder.specs.Decoding.{weight, leaves, isCodeword}
+use Rattle.coordinates.specs.Coordinates.{coordinateOf, coordinatesTo, weight}
+use Rattle.decoder.specs.Decoding.{leaves, isCodeword}
 use Rattle.decoder.specs.Nearest.{isCodewordOf, nothingFound, nearestOf}
 
 pub tests :

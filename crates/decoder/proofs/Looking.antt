@@ -11,9 +11,9 @@ use borrow.Author.Tests.{ne-eqb}
 use Rattle.order.specs.declared.Order.{Order}
 use Rattle.order.specs.Order.{listed}
 use Rattle.order.proofs.Records.{passed}
-use Rattle.coordinates.specs.Coordinates.{coordinatesTo}
+use Rattle.coordinates.specs.Coordinates.{coordinatesTo, weight}
 use Rattle.distance.specs.Distance.{exchange}
-use Rattle.decoder.specs.Decoding.{modulus, weight, isCodeword, correction}
+use Rattle.decoder.specs.Decoding.{modulus, isCodeword, correction}
 use Rattle.decoder.specs.Steps.{syndromeOf, Misread, correctsBy}
 use Rattle.decoder.proofs.First.{first-is}
 use Rattle.decoder.proofs.ZeroSyndrome.{code-syndrome}

@@ -9,7 +9,8 @@ use native.Mathlib.Omega.{arith}
 use lib.ListN.{length, getD, take, drop, drop-of-length-le}
 use lib.Seq.{length-take-le, drop-cons, getD-take}
 use Rattle.coordinates.specs.declared.Coordinates.{Coordinates}
-use Rattle.decoder.specs.Decoding.{modulus, weight}
+use Rattle.coordinates.specs.Coordinates.{weight}
+use Rattle.decoder.specs.Decoding.{modulus}
 
 -- at most eleven coordinates, in an array of eleven places
 pub record Sized (x : Coordinates) : Type 0 where

@@ -1,40 +1,27 @@
 -- A neighbour exchange and the weighted sum: it changes by the greater of the two cells less 1, up where that one stands just below, down
 -- where it stands just above. So the syndrome tells whether the exchange makes a codeword.
 -- Assumes nothing.
-use Prim.Native.Nat.{ℕ, zero, suc, _+_, _-_, _*_, _%_, _≤_, _<_}
-use native.Mathlib.Nat.{mul-add, mod-add-mod, mod-eq-of-lt, mod-eq-sub-mod, mod-lt}
+use Prim.Native.Nat.{ℕ, suc, _+_, _-_, _%_, _≤_, _<_}
+use native.Mathlib.Nat.{mod-add-mod, mod-eq-of-lt, mod-eq-sub-mod, mod-lt}
 use native.Mathlib.Omega.{arith}
-use mathlib.Core.Path.{_≡_, sym, ap, _∙_}
+use mathlib.Core.Path.{_≡_, sym, _∙_}
 use mathlib.Core.Logic.{_⊎_, inl, inr, ⊎-elim, _↔_}
 use mathlib.Core.Bool.{true, false}
 use mathlib.Core.List.{List}
 use lib.Dec.{eqb}
 use lib.ListN.{getD}
 use borrow.Author.Tests.{eqb-true, eq-eqb, ne-eqb}
-use Rattle.order.specs.Cells.{tabulate}
 use Rattle.order.proofs.Cells.{lt-cases, eq-cases, IsOrder, order-range}
-use Rattle.order.proofs.Tabulate.{tabulate-ext}
-use Rattle.coordinates.specs.Coordinates.{coordinateOf, coordinatesTo}
+use Rattle.coordinates.specs.Coordinates.{coordinateOf, coordinatesTo, weight}
+use Rattle.coordinates.proofs.WeightedSum.{weight-more}
 use Rattle.distance.specs.Distance.{exchange}
 use Rattle.distance.proofs.Counts.{order-distinct}
 use Rattle.distance.proofs.Exchange.{Exchanged, exchange-at, exchanged-apart}
 use Rattle.distance.proofs.OneCoordinate.{OneMore, coordinate-more, coordinate-less}
-use Rattle.decoder.specs.Decoding.{modulus, weight, leaves, isCodeword}
+use Rattle.decoder.specs.Decoding.{modulus, leaves, isCodeword}
 use Rattle.decoder.specs.Steps.{syndromeOf, correctsBy}
 
 -- ---- the weighted sum
-
--- one more at j, and the same elsewhere
-weight-more : (m i j : ℕ) (f h : ℕ → ℕ) → j < m → h j ≡ f j + 1 → ((k : ℕ) → (k ≡ j → ⊥) → h k ≡ f k)
-    → weight i (tabulate m h) ≡ weight i (tabulate m f) + (i + j)
-unfolding weight
-weight-more zero i j f h l more same = absurd (omega arith)
-weight-more (suc m) i zero f h l more same =
-    let rest : weight (suc i) (tabulate m (λ k. h (suc k))) ≡ weight (suc i) (tabulate m (λ k. f (suc k))) =
-    ap (weight (suc i)) (tabulate-ext m _ _ (λ k g. same (suc k) (omega arith))) in
-    omega (arith, ap (λ (v : ℕ). i * v) more, mul-add i (f 0) 1)
-weight-more (suc m) i (suc j) f h l more same =
-    omega (arith, ap (λ (v : ℕ). i * v) (same 0 (omega arith)), weight-more m (suc i) j (λ k. f (suc k)) (λ k. h (suc k)) (omega arith) more (λ k e. same (suc k) (omega arith)))
 
 abbrev pub sumOf : ℕ → List ℕ → ℕ
 sumOf n u = weight 1 (coordinatesTo (n - 1) u)
@@ -43,7 +30,8 @@ sum-more : {n i : ℕ} {u v : List ℕ} → OneMore n i u v → sumOf n v ≡ su
 unfolding coordinatesTo
 sum-more {n} {i} {u} {v} t =
     let e : suc (i - 1) ≡ i = omega (arith, t .first) in
-    omega (arith, weight-more (n - 1) 1 (i - 1) (λ k. coordinateOf u (suc k)) (λ k. coordinateOf v (suc k)) (omega (arith, t .first, t .last)) (rw e (t .more)) (λ k q. t .others (suc k) (λ p. q (omega arith))))
+    let more = weight-more (n - 1) 1 (i - 1) 1 (λ k. coordinateOf u (suc k)) (λ k. coordinateOf v (suc k)) (omega (arith, t .first, t .last)) (rw e (t .more)) in
+    omega (arith, more (λ k q. t .others (suc k) (λ p. q (omega arith))))
 
 -- ---- remainders
 

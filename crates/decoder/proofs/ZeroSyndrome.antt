@@ -15,9 +15,9 @@ use Rattle.order.proofs.Refusals.{told-done}
 use Rattle.order.proofs.Records.{passed}
 use Rattle.coordinates.specs.declared.Coordinates.{Coordinates}
 use Rattle.coordinates.specs.declared.CoordinatesAnswer.{CoordinatesAnswer}
-use Rattle.coordinates.specs.Coordinates.{coordinateOf, coordinatesTo}
+use Rattle.coordinates.specs.Coordinates.{coordinateOf, coordinatesTo, weight}
 use Rattle.coordinates.specs.Conversion.{coordinatesOf, toldCoordinates, coordinatesOfOrder}
-use Rattle.decoder.specs.Decoding.{modulus, weight, leaves, isCodeword}
+use Rattle.decoder.specs.Decoding.{modulus, leaves, isCodeword}
 use Rattle.decoder.specs.Steps.{syndromeOf}
 use Rattle.decoder.proofs.Scanning.{cut}
 

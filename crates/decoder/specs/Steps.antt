@@ -12,8 +12,8 @@ use lib.Dec.{ltb, eqb}
 use Rattle.order.specs.declared.Order.{Order}
 use Rattle.order.specs.Refusals.{numberOf}
 use Rattle.order.specs.Order.{listed, orderChecks}
-use Rattle.coordinates.specs.Coordinates.{coordinatesTo}
-use Rattle.decoder.specs.Decoding.{modulus, weight}
+use Rattle.coordinates.specs.Coordinates.{coordinatesTo, weight}
+use Rattle.decoder.specs.Decoding.{modulus}
 
 unfoldable pub syndromeOf : ℕ → List ℕ → ℕ
 syndromeOf n u = weight 1 (coordinatesTo (n - 1) u) % modulus n

@@ -11,8 +11,9 @@ ghost use Prim.Native.Nat.{_+_, _%_, _≤_, _<_};
 ghost use lib.ListN.{take};
 ghost use Rattle.order.specs.Refusals.{refusalNumber};
 ghost use Rattle.order.specs.Order.{listed};
+ghost use Rattle.coordinates.specs.Coordinates.{weight};
 ghost use Rattle.coordinates.specs.Conversion.{coordinatesOf};
-ghost use Rattle.decoder.specs.Decoding.{modulus, weight, correction};
+ghost use Rattle.decoder.specs.Decoding.{modulus, correction};
 ghost use Rattle.decoder.specs.Nearest.{toldTest, isCodewordOf, exchangedOrder, nothingFound, toldNearest, nearestOf};
 ghost use Rattle.decoder.specs.Steps.{Misread, correctsBy, Exchangeable};
 

@@ -8,8 +8,8 @@ use mathlib.Core.List.{List, [], _∷_}
 use lib.ListN.{length}
 use Rattle.order.specs.Refusals as refusals
 use Rattle.order.specs.Order.{noOrder}
-use Rattle.coordinates.specs.Coordinates.{coordinateOf, coordinatesTo, orderFrom}
-use Rattle.decoder.specs.Decoding.{weight, leaves, isCodeword, firstBelow, correction}
+use Rattle.coordinates.specs.Coordinates.{coordinateOf, coordinatesTo, weight, orderFrom}
+use Rattle.decoder.specs.Decoding.{leaves, isCodeword, firstBelow, correction}
 use Rattle.code.specs.Words.{joined, select, same, indexOf, vectorsFrom, vectors, words, K, wordAt, wordNumber, symbolOf}
 use Rattle.code.specs.Symbols.{wordOf, readingAt}
 use Rattle.group.specs.declared.Group.{Group}

@@ -10,8 +10,8 @@ use lib.Dec.{ltb}
 use lib.ListN.{take}
 use Rattle.order.specs.Refusals as refusals
 use Rattle.order.specs.Refusals.{ifDone, numberOf}
-use Rattle.coordinates.specs.Coordinates.{orderFrom}
-use Rattle.decoder.specs.Decoding.{weight, leaves}
+use Rattle.coordinates.specs.Coordinates.{weight, orderFrom}
+use Rattle.decoder.specs.Decoding.{leaves}
 use Rattle.code.specs.Words.{joined, select, vectorsFrom, vectors, words, K, wordAt}
 use Rattle.code.specs.Symbols.{wordOf}
 use Rattle.group.specs.declared.Group.{Group}

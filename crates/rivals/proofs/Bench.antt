@@ -6,8 +6,8 @@ use mathlib.Core.Bool.{true, false}
 use mathlib.Core.List.{[], _∷_}
 use mathlib.Core.Option.{none, some}
 use Rattle.order.specs.Refusals as refusals
-use Rattle.coordinates.specs.Coordinates.{coordinateOf, coordinatesTo, orderFrom}
-use Rattle.decoder.specs.Decoding.{weight, leaves, isCodeword, firstBelow, correction}
+use Rattle.coordinates.specs.Coordinates.{coordinateOf, coordinatesTo, weight, orderFrom}
+use Rattle.decoder.specs.Decoding.{leaves, isCodeword, firstBelow, correction}
 use Rattle.code.specs.declared.Verdict.the-variants.{Clean}
 use Rattle.code.specs.Words.{joined, select, same, indexOf, vectorsFrom, vectors, words, K, wordAt, wordNumber, symbolOf}
 use Rattle.code.specs.Symbols.{wordOf, readingAt}

@@ -14,8 +14,8 @@ use Rattle.order.specs.declared.Order.{Order}
 use Rattle.order.specs.Refusals.{numberOf, Told, answer}
 use Rattle.order.specs.Cells.{tabulate, eachOnce, isOrder, allZero, isListing}
 use Rattle.order.specs.Order.{cellNumbers, isOrderOf, orderRecord}
-use Rattle.coordinates.specs.Coordinates.{coordinatesTo, coordinateOf}
-use Rattle.decoder.specs.Decoding.{weight, leaves, isCodeword, firstBelow, correction}
+use Rattle.coordinates.specs.Coordinates.{coordinateOf, coordinatesTo, weight}
+use Rattle.decoder.specs.Decoding.{leaves, isCodeword, firstBelow, correction}
 use Rattle.group.specs.Levels.{level, put, AtMost, atMost, rises}
 use Rattle.push_up.specs.PushUp.{singles, top, floorOver, Reach, Shows, lift, raise, pushOf, rankPushes, pushes, pulsesIn}
 use Rattle.group.specs.declared.Group.{Group}

@@ -4,11 +4,11 @@ use mathlib.Core.Path.{refl}
 use Rattle.order.specs.Refusals as refusals
 use Rattle.order.specs.Cells.{eachOnce, isOrder, allZero, isListing, placeFrom, placeOf}
 use Rattle.order.specs.Order.{cellNumbers, isOrderOf, orderRecord}
-use Rattle.coordinates.specs.Coordinates.{coordinateOf, coordinatesTo, orderFrom}
+use Rattle.coordinates.specs.Coordinates.{coordinateOf, coordinatesTo, weight, orderFrom}
 use Rattle.coordinates.specs.Conversion.{coordinatesOf, coordinatesOfOrder}
 use Rattle.distance.specs.Distance.{distanceOf}
 use Rattle.cost.specs.Cost.{displacement, displacements, largerOf, largest, cost, displacementsOf, costOf}
-use Rattle.decoder.specs.Decoding.{weight, leaves, isCodeword, firstBelow, correction}
+use Rattle.decoder.specs.Decoding.{leaves, isCodeword, firstBelow, correction}
 use Rattle.code.specs.Words.{joined, select, same, indexOf, vectorsFrom, vectors, words, K, wordAt, wordNumber, symbolOf}
 use Rattle.code.specs.Symbols.{wordOf, codewordOf, readingAt, decodeOf}
 use Rattle.group.specs.Levels.{level, put, atMost}

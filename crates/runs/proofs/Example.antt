@@ -4,8 +4,8 @@ use Prim.Native.Nat.{ℕ}
 use mathlib.Core.Path.{_≡_, refl}
 use mathlib.Core.List.{List, [], _∷_}
 use Rattle.order.specs.Refusals as refusals
-use Rattle.coordinates.specs.Coordinates.{coordinateOf, coordinatesTo, orderFrom}
-use Rattle.decoder.specs.Decoding.{weight, leaves, isCodeword, firstBelow, correction}
+use Rattle.coordinates.specs.Coordinates.{coordinateOf, coordinatesTo, weight, orderFrom}
+use Rattle.decoder.specs.Decoding.{leaves, isCodeword, firstBelow, correction}
 use Rattle.code.specs.Words.{joined, select, same, indexOf, vectorsFrom, vectors, words, K, wordAt, wordNumber, symbolOf}
 use Rattle.code.specs.Symbols.{wordOf, readingAt}
 use Rattle.group.specs.Levels.{level, put, atMost, leaked}
