@@ -6,6 +6,7 @@ pub mod Numbering
 pub mod Laws
 pub mod Dictionary
 pub mod Steps
+pub mod Scanning
 pub mod Filling
 pub mod Summing
 pub mod Codewords

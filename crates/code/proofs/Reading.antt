@@ -20,8 +20,6 @@ use Rattle.distance.specs.Distance.{exchange}
 use Rattle.decoder.specs.declared.NearestAnswer.{NearestAnswer}
 use Rattle.decoder.specs.Decoding.{isCodeword, correction}
 use Rattle.decoder.specs.Nearest.{decodeChecks, exchangedOrder, toldNearest, nearestOf}
-use Rattle.decoder.proofs.Scanning.{cut}
-use Rattle.decoder.proofs.ZeroSyndrome.{cut-coordinates, cells-of}
 use Rattle.decoder.proofs.Stores.{same-length, same-list, exchanged-passes}
 use Rattle.decoder.proofs.NearestWord.{lost-number, found-number, wordNear, decoded-order, near-codeword, nearest-number, nearest-zeros, nearest-word, nearest-place, nearest-coordinates}
 use Rattle.code.specs.declared.Verdict.{Verdict}
@@ -29,6 +27,7 @@ use Rattle.code.specs.declared.Verdict.the-variants.{Clean, PutRight}
 use Rattle.code.specs.Words.{wordNumber, symbolOf}
 use Rattle.code.specs.Symbols.{Reading, WordRead, noReading, verdictAt, readingAt, decodeOf, correctedOf}
 use Rattle.code.specs.Steps.{isWord}
+use Rattle.code.proofs.Scanning.{cut, cut-coordinates, cells-of}
 use Rattle.code.proofs.Codewords.{codeword-word}
 
 -- ---- the coordinates of a codeword

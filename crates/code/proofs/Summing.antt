@@ -14,10 +14,10 @@ use Rattle.order.proofs.Refusals.{size-true}
 use Rattle.coordinates.specs.declared.Coordinates.{Coordinates}
 use Rattle.coordinates.specs.Coordinates.{inRange}
 use Rattle.decoder.specs.Decoding.{modulus, leaves}
-use Rattle.decoder.proofs.Scanning.{Sized, cut, at, from, from-cons, from-end, length-cut}
 use Rattle.code.specs.Words.{words, vectors, wordNumber}
 use Rattle.code.specs.Tails.{tails, owed, before}
 use Rattle.code.specs.Steps.{isWord, Choosing}
+use Rattle.code.proofs.Scanning.{Sized, cut, at, from, from-cons, from-end, length-cut}
 use Rattle.code.proofs.Rule.{tails-fit}
 use Rattle.code.proofs.Numbering.{wordsFrom, owed-lt, tail-word, found, number-zero}
 use Rattle.code.proofs.Laws.{K-entry, word-of, number-below}

@@ -2,6 +2,7 @@ pub mod Range
 pub mod RoundTrip
 pub mod WeightedSum
 pub mod Mask
+pub mod Sweeping
 pub mod Counting
 pub mod Insert
 pub mod Build

@@ -38,7 +38,7 @@ parted c (x ∷ xs) l =
     more : (x ≡ c → ⊥) → Parted c xs → Parted c (x ∷ xs)
     more n p = record { front = x ∷ p .front; back = p .back; whole = ap (λ (r : List ℕ). x ∷ r) (p .whole); first = omega (arith, tally-ne x c n, p .first) }
 
-after-cell : (c : ℕ) (a b : List ℕ) → count c a ≡ 0 → after c (a ++ c ∷ b) ≡ b
+pub after-cell : (c : ℕ) (a b : List ℕ) → count c a ≡ 0 → after c (a ++ c ∷ b) ≡ b
 after-cell c [] b z = rw (eq-eqb c c refl)
 after-cell c (x ∷ a) b z =
     ⊎-elim (λ t. absurd (omega (arith, tally-eq x c (t .0)))) (λ t. rw (t .1) (after-cell c a b (omega arith))) (eq-cases x c)

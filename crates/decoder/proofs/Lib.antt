@@ -1,5 +1,4 @@
 pub mod First
-pub mod Scanning
 pub mod ZeroSyndrome
 pub mod Weight
 pub mod Decoding

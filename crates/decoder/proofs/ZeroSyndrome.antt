@@ -1,75 +1,53 @@
--- The syndrome of an order by the record of its coordinates: it is 0 where the order is a codeword.
+-- The syndrome of an order, by the weighted sum that a sweep over it holds: it is 0 where the order is a codeword.
 -- Assumes nothing.
-use Prim.Native.Nat.{ℕ, zero, suc, _+_, _-_, _%_, _≤_}
-use native.Mathlib.Nat.{not-suc-le-zero, le-of-suc-le-suc}
+use Prim.Native.Nat.{ℕ, _%_, _≤_}
 use native.Mathlib.Omega.{arith}
 use mathlib.Core.Path.{_≡_, refl, sym, ap, _∙_}
-use mathlib.Core.List.{List, _∷_}
+use mathlib.Core.List.{List}
 use lib.Dec.{eqb}
-use lib.ListN.{take}
 use Rattle.order.specs.declared.Order.{Order}
-use Rattle.order.specs.Cells.{tabulate}
 use Rattle.order.specs.Refusals.{outcomeNumber, numberOf, Told, answer}
 use Rattle.order.specs.Order.{listed, orderChecks}
 use Rattle.order.proofs.Refusals.{told-done}
 use Rattle.order.proofs.Records.{passed}
-use Rattle.coordinates.specs.declared.Coordinates.{Coordinates}
-use Rattle.coordinates.specs.declared.CoordinatesAnswer.{CoordinatesAnswer}
-use Rattle.coordinates.specs.Coordinates.{coordinateOf, coordinatesTo, weight}
-use Rattle.coordinates.specs.Conversion.{coordinatesOf, toldCoordinates, coordinatesOfOrder}
+use Rattle.coordinates.specs.declared.Sweep.{Sweep}
+use Rattle.coordinates.specs.declared.SweepAnswer.{SweepAnswer}
+use Rattle.coordinates.specs.Conversion.{coordinatesOf}
+use Rattle.coordinates.specs.Sweep.{sweepOf, toldSweep, sweepOfOrder}
+use Rattle.coordinates.proofs.Sweeping.{sweep-coordinates, sweep-sum}
 use Rattle.decoder.specs.Decoding.{modulus, leaves, isCodeword}
 use Rattle.decoder.specs.Steps.{syndromeOf}
-use Rattle.decoder.proofs.Scanning.{cut}
 
 -- an order is a codeword where its syndrome is 0
 pub code-syndrome : (n : ℕ) (u : List ℕ) → isCodeword n u ≡ eqb (syndromeOf n u) 0
 unfolding isCodeword leaves syndromeOf
 code-syndrome n u = refl
 
--- ---- the record of an order's coordinates
+-- ---- the sweep over an order that is handed in
 
-take-tabulate : (m k : ℕ) (f : ℕ → ℕ) → m ≤ k → take m (tabulate k f) ≡ tabulate m f
-take-tabulate zero k f l = refl
-take-tabulate (suc m) zero f l = absurd (not-suc-le-zero l)
-take-tabulate (suc m) (suc k) f l = ap (λ (t : List ℕ). f 0 ∷ t) (take-tabulate m k (λ j. f (suc j)) (le-of-suc-le-suc l))
-
-module _ (o : Order) (low : 1 ≤ o .len) (high : o .len ≤ 12) where
-  pub cut-coordinates : cut (coordinatesOf o) ≡ coordinatesTo (o .len - 1) (listed o)
-  unfolding coordinatesOf coordinatesTo
-  cut-coordinates = take-tabulate (o .len - 1) 11 (λ k. coordinateOf (listed o) (suc k)) (omega arith)
-
-  -- the number of cells
-  pub cells-of : coordinatesOf o .len + 1 ≡ o .len
-  unfolding coordinatesOf
-  cells-of = omega arith
-
-  pub syndrome-of : weight 1 (cut (coordinatesOf o)) % modulus (coordinatesOf o .len + 1) ≡ syndromeOf (o .len) (listed o)
-  unfolding syndromeOf
-  syndrome-of = rw (cut-coordinates, cells-of)
-
--- ---- the coordinates of an order that is handed in
-
-module _ (o : Order) (a : CoordinatesAnswer) (e : toldCoordinates a ≡ coordinatesOfOrder o) where
+module _ (o : Order) (k : ℕ) (a : SweepAnswer) (e : toldSweep a ≡ sweepOfOrder o k) where
   pub same-number : outcomeNumber (a .outcome) ≡ numberOf (orderChecks o)
-  unfolding coordinatesOfOrder answer
-  same-number = ap (λ (t : Told Coordinates). t .number) e
+  unfolding sweepOfOrder answer
+  same-number = ap (λ (t : Told Sweep). t .number) e
 
-  module _ (d : numberOf (orderChecks o) ≡ 0) where
-    pub same-coordinates : a .coordinates ≡ coordinatesOf o
-    unfolding coordinatesOfOrder
-    same-coordinates = ap (λ (t : Told Coordinates). t .value) (e ∙ sym (told-done _ _ _ d))
+  -- of all its places
+  module _ (d : numberOf (orderChecks o) ≡ 0) (l : o .len ≤ k) where
+    same-sweep : a .sweep ≡ sweepOf o k
+    unfolding sweepOfOrder
+    same-sweep = ap (λ (t : Told Sweep). t .value) (e ∙ sym (told-done _ _ _ d))
 
-    pub coordinates-sized : (1 ≤ a .coordinates .len) × (a .coordinates .len ≤ 11)
-    coordinates-sized =
-        let (low, high, listing) = passed o d in
-        let e : a .coordinates .len + 1 ≡ o .len = rw same-coordinates (cells-of o (omega arith) high) in
-        omega arith
+    pub same-coordinates : a .sweep .coordinates ≡ coordinatesOf o
+    same-coordinates = rw same-sweep (sweep-coordinates o d k l)
 
-    pub coordinates-syndrome : weight 1 (cut (a .coordinates)) % modulus (a .coordinates .len + 1) ≡ syndromeOf (o .len) (listed o)
-    coordinates-syndrome =
-        let (low, high, listing) = passed o d in
-        rw same-coordinates (syndrome-of o (omega arith) high)
+    -- the sum gives the syndrome
+    pub same-syndrome : a .sweep .sum % modulus (o .len) ≡ syndromeOf (o .len) (listed o)
+    unfolding syndromeOf
+    same-syndrome = rw same-sweep (ap (λ (w : ℕ). w % modulus (o .len)) (sweep-sum o d k l))
 
     -- it says whether the order is a codeword
-    pub coordinates-tested : eqb (weight 1 (cut (a .coordinates)) % modulus (a .coordinates .len + 1)) 0 ≡ isCodeword (o .len) (listed o)
-    coordinates-tested = ap (λ (k : ℕ). eqb k 0) coordinates-syndrome ∙ sym (code-syndrome (o .len) (listed o))
+    pub sum-tested : eqb (a .sweep .sum % modulus (o .len)) 0 ≡ isCodeword (o .len) (listed o)
+    sum-tested = ap (λ (s : ℕ). eqb s 0) same-syndrome ∙ sym (code-syndrome (o .len) (listed o))
+
+-- an order that passed its checks has a size that `syndrome` takes
+pub passed-size : (o : Order) → numberOf (orderChecks o) ≡ 0 → (1 ≤ o .len) × (o .len ≤ 12)
+passed-size o d = (omega (arith, passed o d .0), passed o d .1)

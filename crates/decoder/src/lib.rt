@@ -8,10 +8,8 @@ use order::Outcome;
 use order::Refusal;
 ghost use mathlib.Core.Path.{_≡_};
 ghost use Prim.Native.Nat.{_+_, _%_, _≤_, _<_};
-ghost use lib.ListN.{take};
 ghost use Rattle.order.specs.Refusals.{refusalNumber};
 ghost use Rattle.order.specs.Order.{listed};
-ghost use Rattle.coordinates.specs.Coordinates.{weight};
 ghost use Rattle.coordinates.specs.Conversion.{coordinatesOf};
 ghost use Rattle.decoder.specs.Decoding.{modulus, correction};
 ghost use Rattle.decoder.specs.Nearest.{toldTest, isCodewordOf, exchangedOrder, nothingFound, toldNearest, nearestOf};
@@ -35,40 +33,36 @@ pub struct NearestAnswer {
 pub fn is_codeword(o: Order) -> TestAnswer
     ensures { λ r. ⌜ toldTest r ≡ isCodewordOf o ⌝ }
 {
-    let answer = coordinates::coordinates_of(o);
+    let answer = coordinates::sweep_of(o, o.len);
     let outcome = answer.outcome;
     if let Outcome::Refused(refusal) = outcome {
         return TestAnswer::Refused(refusal);
     }
-    TestAnswer::Tested(syndrome(answer.coordinates) == 0)
+    let sweep = answer.sweep;
+    TestAnswer::Tested(syndrome(o.len, sweep.sum) == 0)
 }
 
-// The syndrome: what the weighted sum of the coordinates leaves on division by 2n - 1.
-fn syndrome(x: Coordinates) -> usize
-    requires { ⌜ (1 ≤ x .len) × (x .len ≤ 11) ⌝ }
-    ensures { λ s. ⌜ s ≡ weight 1 (take (x .len) (x .values)) % modulus (x .len + 1) ⌝ }
+// The syndrome: what the weighted sum of the coordinates of n cells leaves on division by 2n - 1.
+fn syndrome(n: usize, sum: u32) -> usize
+    requires { ⌜ (1 ≤ n) × (n ≤ 12) ⌝ }
+    ensures { λ s. ⌜ s ≡ sum % modulus n ⌝ }
 {
-    let m = x.len;
-    let mut sum: usize = 0;
-    let mut i: usize = 1;
-    while i <= m {
-        sum += i * (x.values[i - 1] as usize);
-        i += 1;
-    }
-    sum % (2 * m + 1)
+    let remainder = sum % ((2 * n - 1) as u32);
+    remainder as usize
 }
 
 // The codeword within distance 1 of an order.
 pub fn nearest(o: Order) -> NearestAnswer
     ensures { λ r. ⌜ toldNearest r ≡ nearestOf o ⌝ }
 {
-    let read = coordinates::coordinates_of(o);
+    let read = coordinates::sweep_of(o, o.len);
     let outcome = read.outcome;
     if let Outcome::Refused(refusal) = outcome {
         return no_word(refusal);
     }
-    let x = read.coordinates;
-    let s = syndrome(x);
+    let sweep = read.sweep;
+    let x = sweep.coordinates;
+    let s = syndrome(o.len, sweep.sum);
     if s == 0 {
         return NearestAnswer {
             outcome: Outcome::Done,

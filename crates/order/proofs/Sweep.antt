@@ -39,7 +39,7 @@ module _ {xs : List ℕ} {len i x : ℕ} (t : Turn (Downto xs len i) xs i x) whe
   pub down-more : Downto xs len (i - 1)
   down-more = record { whole = s .whole; small = s .small; left = omega (arith, s .left) }
 
-  met-at : getD (take len xs) (i - 1) 0 ≡ x
+  pub met-at : getD (take len xs) (i - 1) 0 ≡ x
   met-at = getD-take len xs (i - 1) 0 (omega (arith, s .left)) ∙ sym at
 
   pub met-down : drop (i - 1) (take len xs) ≡ x ∷ drop i (take len xs)

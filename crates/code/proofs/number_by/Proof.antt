@@ -5,8 +5,8 @@ use Prim.Native.Nat.{_-_}
 use native.Mathlib.Omega.{arith}
 use borrow.Author.Needs.{needs}
 use Rattle.decoder.specs.Decoding.{modulus}
-use Rattle.decoder.proofs.Scanning.{at}
 use Rattle.code.specs.Tails.{owed, before}
+use Rattle.code.proofs.Scanning.{at}
 use Rattle.code.proofs.Summing.{Summing, cells, start, step, end, choosing, sum-fits}
 use Rattle.code.proofs.number_by.Statement.{statement}
 use Rattle.code.proofs.number_by.Tie as tie
