@@ -9,15 +9,15 @@ use comparing::report::Report;
 use comparing::report::part;
 
 enum Part {
-    // n! orders, 12 comparisons each. As coordinates, the cells are in range for [1, .., n] alone: n! - 1 are refused 11. A word is near n
+    // n! orders, 29 comparisons each. As coordinates, the cells are in range for [1, .., n] alone: n! - 1 are refused 11. A word is near n
     // orders, itself among them: three calls refuse n! - nK orders as lost. All else is done.
     Orders,
     // n! times n! pairs, 4 comparisons each, all done.
     Pairs,
-    // 1,250 lists of each length, an order or none, 19 comparisons each. The last length, 16 here, is 2^64 - 1. Where no group has the length,
+    // 1,250 lists of each length, an order or none, 36 comparisons each. The last length, 16 here, is 2^64 - 1. Where no group has the length,
     // 5,000 are refused 4, as second of a pair; 1,250 are no refusal; the others are refused 1, but for length 2 as three coordinates.
     Lists,
-    // 2,000 sampled orders, one in 16 of them damaged, 15 comparisons each.
+    // 2,000 sampled orders, one in 16 of them damaged, 32 comparisons each.
     SampledOrders,
     // Every word is listed. One in so many is compared, 5 comparisons each of which one is refused 8: K of them to n = 9, then K / 16,
     // K / 256 and K / 4,096, rounded up. Then 16 sampled orders, 3 each, which a lost one refuses 7; and 4 for the end of the list, of which 3

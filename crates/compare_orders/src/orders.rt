@@ -10,6 +10,7 @@ use decoder::TestAnswer;
 use distance::DistanceAnswer;
 use naive::numbers::add;
 use naive::numbers::byte;
+use naive::numbers::wide64;
 use naive::orders::cells_of;
 use naive::orders::ranks_in;
 use naive::orders::shifted;
@@ -87,6 +88,31 @@ fn coordinates_of(t: Tally, o: Order) -> Tally {
     )
 }
 
+fn sweep_of(t: Tally, o: Order, places: usize) -> Tally {
+    let a = coordinates::sweep_of(o, places);
+    let b = naive::words::sweep_of(o, places);
+    let found = a.outcome;
+    let sweep = a.sweep;
+    let held = sweep.coordinates;
+    noted(
+        t,
+        b.number,
+        same::outcome(found) == b.number
+            && held.len == b.len
+            && first_difference(shifted(held), b.values) == 0
+            && wide64(sweep.sum) == b.sum,
+    )
+}
+
+// Sweeps of 0 to 15 places, and of 2^64 - 1.
+fn sweeps(t: Tally, o: Order) -> Tally {
+    let mut all = t;
+    for k in 0..=16 {
+        all = sweep_of(all, o, length(k));
+    }
+    all
+}
+
 fn from_coordinates(t: Tally, x: Coordinates) -> Tally {
     same::order_answer(
         t,
@@ -124,12 +150,12 @@ pub fn is_order(t: Tally, o: Order, n: usize) -> Tally {
     noted(t, 0, order::is_order(o, n) == naive::orders::is_order(o, n))
 }
 
-// Eleven comparisons of one order, right or not.
+// 28 comparisons of one order, right or not.
 fn each(t: Tally, o: Order) -> Tally {
     let t1 = same::checked(t, order::check_order(o), naive::orders::check_order(o));
     let t2 = from_ranks(ranks_of(t1, o), o);
     let t3 = order_of(is_order(t2, o, o.len), o);
-    let t4 = back(coordinates_of(t3, o), o);
+    let t4 = back(sweeps(coordinates_of(t3, o), o), o);
     let t5 = from_coordinates(t4, as_coordinates(o));
     let r = naive_calls::symbols::decode(o);
     let t6 = same::decoded(is_codeword(t5, o), code::decode(o), r);
@@ -239,7 +265,7 @@ pub fn every_list(len: usize) -> Tally {
     t
 }
 
-// A length of a list, the last one huge.
+// A length of a list, or a number of places; the last one huge.
 pub fn length(len: usize) -> usize {
     if len < 16 { len } else { 18446744073709551615 }
 }

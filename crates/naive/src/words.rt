@@ -9,8 +9,10 @@ use crate::numbers::wide;
 use crate::orders::cells_of;
 use crate::orders::check_order;
 use crate::orders::coordinates_at;
+use crate::orders::coordinates_of;
 use crate::orders::placed;
 use crate::orders::places;
+use crate::orders::shifted;
 use crate::orders::with_cells;
 use crate::pairs::NumberFound;
 use crate::pairs::opposed;
@@ -29,6 +31,14 @@ pub struct Reading {
     pub symbol: u32,
     pub place: u8,
     pub word: Order,
+}
+
+// What a sweep holds: coordinate i at index i, and the weighted sum.
+pub struct SweepFound {
+    pub number: u8,
+    pub len: usize,
+    pub values: [u8; 12],
+    pub sum: usize,
 }
 
 // There are no more lists than 12 factorial.
@@ -79,6 +89,33 @@ fn weight(values: [u8; 12]) -> usize {
         sum = add(sum, product(byte(i), values[i]));
     }
     sum
+}
+
+// The coordinates without those of the cells that stand before the last places, so many as were swept.
+fn met(values: [u8; 12], cells: [u8; 12], n: usize, swept: usize) -> [u8; 12] {
+    let mut held = values;
+    for k in 0..12 {
+        if k < n {
+            if swept < n - k {
+                let next = put(held, std::num::wrapping_sub_usize(wide(cells[k]), 1), 0);
+                held = next;
+            }
+        }
+    }
+    held
+}
+
+// Document 02, (f): what a sweep from the last place up holds after so many places.
+pub fn sweep_of(o: Order, swept: usize) -> SweepFound {
+    let found = coordinates_of(o);
+    let x = found.coordinates;
+    let values = met(shifted(x), cells_of(o), o.len, swept);
+    SweepFound {
+        number: found.number,
+        len: x.len,
+        values,
+        sum: weight(values),
+    }
 }
 
 // Whether coordinates of n cells are those of a word.
