@@ -132,8 +132,8 @@ fn less(residue: usize, i: usize, m: usize) -> usize {
 pub fn decode(order: &Order) -> Result<Reading, Refusal> {
     let n = order.n();
     let m = modulus(n);
-    let mut coordinates = order.coordinates();
-    let syndrome = coordinates.weighted_sum() as usize % m;
+    let (mut coordinates, sum) = order.sweep();
+    let syndrome = sum as usize % m;
     if syndrome == 0 {
         return Ok(Reading { symbol: number(&coordinates), verdict: Verdict::Clean, codeword: *order });
     }

@@ -67,15 +67,22 @@ impl Order {
     }
 
     pub fn coordinates(&self) -> Coordinates {
+        self.sweep().0
+    }
+
+    /// The coordinates, and the sum over i of i times coordinate i.
+    pub fn sweep(&self) -> (Coordinates, u32) {
         let mut values = [0; MOST];
+        let mut sum = 0;
         // the cells met, coming from the last place
         let mut met = 0u32;
         for &cell in self.cells().iter().rev() {
-            let lower = met & (bit(cell) - 1);
-            values[usize::from(cell) - 1] = lower.count_ones() as u8;
+            let lower = (met & (bit(cell) - 1)).count_ones();
+            values[usize::from(cell) - 1] = lower as u8;
+            sum += (u32::from(cell) - 1) * lower;
             met |= bit(cell);
         }
-        Coordinates { n: self.n, values }
+        (Coordinates { n: self.n, values }, sum)
     }
 
     /// The number of cell pairs that the two list oppositely.
@@ -144,11 +151,6 @@ impl Coordinates {
     /// All coordinates 0: the order 1 to n.
     pub(crate) fn zero(n: u8) -> Coordinates {
         Coordinates { n, values: [0; MOST] }
-    }
-
-    /// The sum over i of i times coordinate i.
-    pub fn weighted_sum(&self) -> u32 {
-        (1..).zip(self.values()).map(|(i, &value)| i * u32::from(value)).sum()
     }
 
     pub fn order(&self) -> Order {
