@@ -100,7 +100,7 @@ pub fn codeword(n: usize, symbol: u32) -> OrderAnswer
     if words_of(n) <= symbol {
         return order::no_order(Refusal::NoSymbol);
     }
-    coordinates::from_coordinates(word(n, symbol))
+    insertion::from_coordinates(word(n, symbol))
 }
 
 // The coordinates of the codeword of a number. Each arm calls for the table itself: the compiler then builds its block and leaves out the others.

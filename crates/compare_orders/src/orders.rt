@@ -116,7 +116,7 @@ fn sweeps(t: Tally, o: Order) -> Tally {
 fn from_coordinates(t: Tally, x: Coordinates) -> Tally {
     same::order_answer(
         t,
-        coordinates::from_coordinates(x),
+        insertion::from_coordinates(x),
         naive::orders::from_coordinates(x),
     )
 }

@@ -4,8 +4,6 @@ pub mod WeightedSum
 pub mod Mask
 pub mod Sweeping
 pub mod Counting
-pub mod Insert
-pub mod Build
 pub mod Told
 pub mod Determine
 pub mod Bench

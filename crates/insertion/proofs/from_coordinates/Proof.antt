@@ -1,4 +1,4 @@
--- `coordinates::from_coordinates` meets its contract.
+-- `insertion::from_coordinates` meets its contract.
 -- Assumes nothing.
 use borrow.Author.Needs.{needs}
 use Prim.Native.Nat.{_+_}
@@ -7,10 +7,10 @@ use mathlib.Core.Path.{sym, ap, _∙_}
 use Rattle.order.specs.Refusals.{outcomeNumber}
 use Rattle.order.proofs.Refusals.{accepted, told-refused, told-done, sized-done}
 use Rattle.order.specs.declared.Refusal.the-variants.{Coordinate}
 use Rattle.coordinates.specs.Coordinates.{inRange}
 use Rattle.coordinates.specs.Conversion.{orderOfCoordinates}
-use Rattle.coordinates.proofs.from_coordinates.Statement.{statement}
-use Rattle.coordinates.proofs.from_coordinates.Tie as tie
+use Rattle.insertion.proofs.from_coordinates.Statement.{statement}
+use Rattle.insertion.proofs.from_coordinates.Tie as tie
 
 returns : tie.Need-returns
 unfolding orderOfCoordinates

@@ -15,12 +15,12 @@ use Rattle.order.specs.Order.{orderRecord}
 use Rattle.order.proofs.Cells.{lt-cases, eq-cases}
 use Rattle.order.proofs.Tabulate.{getD-tabulate}
 use Rattle.order.proofs.Numbers.{cell}
 use Rattle.coordinates.specs.declared.Coordinates.{Coordinates}
 use Rattle.coordinates.specs.Coordinates.{insertAt, orderFrom, inRange}
 use Rattle.coordinates.specs.Conversion.{coordinateAt, orderByCoordinates}
-use Rattle.coordinates.proofs.Insert.{length-insert, insert-before, insert-here, insert-after, Moved, moved-none}
+use Rattle.insertion.proofs.Insert.{length-insert, insert-before, insert-here, insert-after, Moved, moved-none}
 use Rattle.coordinates.proofs.Range.{value-low}
 use Rattle.coordinates.proofs.RoundTrip.{order-is}
 
 -- ---- a cell is put in among cells that leave the last place free
 

@@ -1,13 +1,13 @@
--- `coordinates::order_by_insertion` meets its contract. The loop's invariant: the cells 1 to `i` are in place; that of the loop in it: the cells
+-- `insertion::order_by_insertion` meets its contract. The loop's invariant: the cells 1 to `i` are in place; that of the loop in it: the cells
 -- from place `j` on have moved up by one.
 -- Assumes nothing.
 use borrow.Author.Needs.{needs}
 use Prim.Native.Nat.{_-_}
 use native.Mathlib.Omega.{arith}
-use Rattle.coordinates.proofs.Insert.{Moved, moved-more, moved-all}
-use Rattle.coordinates.proofs.Build.{Built, built-one, built-room, coordinate-low, built-more, built-all}
-use Rattle.coordinates.proofs.order_by_insertion.Statement.{statement}
-use Rattle.coordinates.proofs.order_by_insertion.Tie as tie
+use Rattle.insertion.proofs.Insert.{Moved, moved-more, moved-all}
+use Rattle.insertion.proofs.Build.{Built, built-one, built-room, coordinate-low, built-more, built-all}
+use Rattle.insertion.proofs.order_by_insertion.Statement.{statement}
+use Rattle.insertion.proofs.order_by_insertion.Tie as tie
 
 abbrev Inv-loop2 : tie.InvT-loop2
 Inv-loop2 x n cells₀ i at j₀ cells j = Moved (record { 0 = 0 }) at cells₀ cells j

@@ -1,4 +1,4 @@
--- `coordinates::check_coordinates` meets its contract.
+-- `insertion::check_coordinates` meets its contract.
 -- Assumes nothing.
 use borrow.Author.Needs.{needs}
 use borrow.Author.Tests.{not-true, not-false}
@@ -8,8 +8,8 @@ use mathlib.Core.Path.{_≡_, sym, _∙_}
 use mathlib.Core.Bool.{true}
 use Rattle.order.specs.Refusals.{isSize}
 use Rattle.order.proofs.Refusals.{check-fails, check-holds, all-hold, size-low, size-high, size-in}
-use Rattle.coordinates.proofs.check_coordinates.Statement.{statement}
-use Rattle.coordinates.proofs.check_coordinates.Tie as tie
+use Rattle.insertion.proofs.check_coordinates.Statement.{statement}
+use Rattle.insertion.proofs.check_coordinates.Tie as tie
 
 returns : tie.Need-returns
 returns c = sym (check-fails _ _ (size-low (c .before .args .x .len + 1) (omega arith)))

@@ -1,4 +1,4 @@
--- `coordinates::are_in_range` meets its contract. The loop's invariant: `within` says whether the first `k` coordinates are in range.
+-- `insertion::are_in_range` meets its contract. The loop's invariant: `within` says whether the first `k` coordinates are in range.
 -- Assumes nothing.
 use borrow.Author.Needs.{needs}
 use Prim.Native.Nat.{_-_}
@@ -7,9 +7,9 @@ use mathlib.Core.Bool.{_&&_, and-true, and-false}
 use mathlib.Core.Logic.{⊎-elim}
 use lib.Dec.{leb}
 use borrow.Author.Tests.{le-leb, lt-leb}
-use Rattle.coordinates.proofs.Range.{RangedTo, ranged-none, ranged-more, ranged-all}
-use Rattle.coordinates.proofs.are_in_range.Statement.{statement}
-use Rattle.coordinates.proofs.are_in_range.Tie as tie
+use Rattle.insertion.proofs.Ranging.{RangedTo, ranged-none, ranged-more, ranged-all}
+use Rattle.insertion.proofs.are_in_range.Statement.{statement}
+use Rattle.insertion.proofs.are_in_range.Tie as tie
 
 abbrev Inv-loop : tie.InvT-loop
 Inv-loop x m within₀ k₀ within k = RangedTo x within k

@@ -1,8 +1,8 @@
--- `coordinates::limit_of` meets its contract.
+-- `insertion::limit_of` meets its contract.
 -- Assumes nothing.
 use borrow.Author.Tests.{le-leb, lt-leb}
-use Rattle.coordinates.proofs.limit_of.Statement.{statement}
-use Rattle.coordinates.proofs.limit_of.Tie as tie
+use Rattle.insertion.proofs.limit_of.Statement.{statement}
+use Rattle.insertion.proofs.limit_of.Tie as tie
 
 returns : tie.Need-returns
 returns c = rw (le-leb _ _ (c .if1 .taken))
