@@ -5,7 +5,7 @@
 use Prim.Native.Nat.{ℕ, _+_, _-_}
 use mathlib.Core.Path.{_≡_, refl, sym, ap, _∙_}
 use mathlib.Core.Bool.{Bool, true, false, false≢true}
-use mathlib.Core.List.{List, [], _∷_, _++_, map}
+use mathlib.Core.List.{List, [], _∷_, _++_, map, flatten}
 use native.Mathlib.Omega.{arith}
 use lib.Dec.{leb, ltb}
 use lib.ListN.{length, take}
@@ -23,8 +23,10 @@ use Rattle.group.specs.declared.Group.{Group}
 use Rattle.group.specs.Record.{groupChecks, IsGroup}
 use Rattle.group.proofs.Checks.{checked-size}
 use Rattle.push_up.specs.declared.Push.{Push}
+use Rattle.push_up.specs.PushUp.{singles}
 use Rattle.push_up.specs.WriteAnswer.{Program, writeOf}
 use Rattle.push_up.specs.PushProgram.{counted}
+use Rattle.push_up.proofs.Orders.{flatten-singles}
 use Rattle.push_list.specs.LentWrite.{writeIntoOf, listAfter}
 use Rattle.push_list.proofs.Written.{list-counted}
 use Rattle.take_over.specs.TakeOver.{takeOverOf}
@@ -67,16 +69,16 @@ module _ (g h : Group) (d : numberOf (groupChecks h) ≡ 0) (n : h .n ≡ g .n) 
 target-again : (g h : Group) (o : Order) (k : Kind) → namesTarget k ≡ true → h .n ≡ g .n → targetBy h o k ≡ targetBy g o k
 target-again g h o Write w n = refl
 target-again g h o (WriteInto room) w n = refl
-target-again g h o (Store s) w n = ap (λ (m : ℕ). wordOf m s) n
+target-again g h o (Store s) w n = ap (λ (m : ℕ). singles (wordOf m s)) n
 target-again g h o Scrub w n = absurd (false≢true w)
 target-again g h o (Leak c d) w n = refl
 target-again g h o (Wear c cap) w n = refl
 target-again g h o Erase w n = refl
 target-again g h o Read w n = refl
 
--- the write of the order that lists these cells
-abbrev pub targetWrite : List ℕ → Call
-targetWrite t = record { kind = Write; target = orderRecord t }
+-- the write of the order that lists the cells of these ranks
+abbrev pub targetWrite : List (List ℕ) → Call
+targetWrite t = record { kind = Write; target = orderRecord (flatten t) }
 
 module _ (g : Group) (c : Call) (w : writes (c .kind) ≡ true) (e : applyOf g c .number ≡ 0) where
   earlier : numberOf (earlierChecks g c) ≡ 0
@@ -94,12 +96,13 @@ module _ (g : Group) (c : Call) (w : writes (c .kind) ≡ true) (e : applyOf g c
   -- so is the write of the target of any accepted call
   pub target-write : IsWriteOf (g .n) (target g c) (targetWrite (target g c))
   target-write =
-      let t = target-order g (c .target) (c .kind) w earlier in
-      let size = checked-size g (t .0) in
-      let is-order = recorded-order (g .n) (target g c) (t .1) (size .0) (size .1) in
+      let (d, xs, t, shown) = target-order g (c .target) (c .kind) w earlier in
+      let size = checked-size g d in
+      let cells : flatten (target g c) ≡ xs = ap flatten shown ∙ flatten-singles xs in
+      let is-order = rw (← cells) at (recorded-order (g .n) xs t (size .0) (size .1)) in
       record {
         raises = refl;
-        same = λ h n. recorded-list (g .n) (target g c) (t .1) (size .0) (size .1);
+        same = λ h n. rw cells (ap singles (recorded-list (g .n) xs t (size .0) (size .1))) ∙ sym shown;
         passes = λ h n k. later-decide _ (groupChecks h) (k .passes) ∙ check-holds NoOrder [] (rw n is-order) ∙ all-hold;
       }
 
@@ -117,7 +120,7 @@ module _ (g : Group) (o : Order) where
       rw told
       (record {
         raises = refl;
-        same = λ h n. ap (λ (m : ℕ). wordOf m (readingOf g .symbol)) n ∙ symbol-word g read;
+        same = λ h n. ap singles (ap (λ (m : ℕ). wordOf m (readingOf g .symbol)) n ∙ symbol-word g read);
         passes = λ h n k. later-decide _ (groupChecks h) (k .passes) ∙ check-holds NoSymbol [] (rw n (lt-ltb _ _ (symbol-low g read))) ∙ all-hold;
       })
 

@@ -3,7 +3,7 @@
 use Prim.Native.Nat.{ℕ, _+_}
 use mathlib.Core.Path.{_≡_, refl, ap}
 use mathlib.Core.Bool.{true, false}
-use mathlib.Core.List.{List, [], _∷_, _++_}
+use mathlib.Core.List.{List, [], _∷_, _++_, flatten}
 use mathlib.Core.Option.{none}
 use native.Mathlib.Omega.{arith}
 use lib.Dec.{lit≤}
@@ -42,11 +42,12 @@ programTo (c ∷ cs) old new = programTo cs old new ++ pushOf c (level old c) (l
 -- one that pushes to the top (SD 002), with its own push program: cut in the middle and made again, it raises less
 pub climber : Machine
 climber g c =
-    let new = toTheTop (target g c) (g .levels) in
-    let program = programTo (target g c) (g .levels) new in
+    let cells = flatten (target g c) in
+    let new = toTheTop cells (g .levels) in
+    let program = programTo cells (g .levels) new in
     record {
       number = 0;
-      value = record { group = programmed g new; symbol = 0; verdict = none; pulses = pulsesIn program; count = length program; pushes = pushArray program };
+      value = record { group = programmed true g new; symbol = 0; verdict = none; pulses = pulsesIn program; count = length program; pushes = pushArray program };
     }
 
 -- from levels 2, 1, 0 it shows [1, 3, 2] by 4, 1, 3. Cut where cell 3 stands at 2, above cell 2, it goes to 3, 1, 2
@@ -54,7 +55,7 @@ abbrev call : Call
 call = record { kind = Write; target = order (1 ∷ 3 ∷ 2 ∷ []) }
 
 pub climber-refuted : ¬ (RepairsCuts climber)
-unfolding climber toTheTop programTo applyOf writeOf pushed fits raised raise lift singles floorOver atMost lastAnswer takenAt takeOverOf levelsAt played isMeasured answer numberOf isRow allAtMost pushOf top level put cellNumbers isOrderOf isListing isOrder eachOnce allZero
+unfolding climber flatten toTheTop programTo applyOf writeOf pushed fits raised raise lift singles floorOver atMost lastAnswer takenAt takeOverOf levelsAt played isMeasured answer numberOf isRow allAtMost pushOf top level put cellNumbers isOrderOf isListing isOrder eachOnce allZero
 climber-refuted =
     fails climber (group true (2 ∷ 1 ∷ 0 ∷ [])) call (record { done = 0; level = 2 }) (record { passes = refl; levels = refl; caps = refl }) refl refl refl refl
     (lit≤ tt, (lit≤ tt, lit≤ tt))

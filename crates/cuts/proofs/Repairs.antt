@@ -13,19 +13,18 @@ use Rattle.group.specs.Levels.{AtMost}
 use Rattle.group.specs.Record.{isRow, IsGroup, programmed}
 use Rattle.group.proofs.Levels.{at-most-refl, at-most-trans, at-most-length, true-at-most}
 use Rattle.group.proofs.LevelRows.{row-below}
-use Rattle.group.proofs.Checks.{checked-size, checked-caps}
+use Rattle.group.proofs.Checks.{checked-caps}
 use Rattle.group.proofs.Groups.{group-with}
-use Rattle.push_up.specs.PushUp.{singles, pushes, pulsesIn}
+use Rattle.push_up.specs.PushUp.{pushes, pulsesIn}
 use Rattle.push_up.specs.WriteAnswer.{Program, raised, fits, pushChecks, pushed}
 use Rattle.push_up.specs.PushProgram.{counted}
 use Rattle.push_up.proofs.Minimal.{Apart}
-use Rattle.push_up.proofs.Orders.{order-apart}
 use Rattle.push_up.proofs.Programs.{program-runs, counted-pushes}
-use Rattle.push_up.proofs.Writes.{push-holds}
+use Rattle.push_up.proofs.Writes.{push-holds, target-apart}
 use Rattle.take_over.proofs.Taken.{taken-with}
 use Rattle.plain_machine.specs.declared.Call.{Call}
 use Rattle.plain_machine.specs.Machine.{writes, target, earlierChecks, applyOf}
-use Rattle.plain_machine.proofs.Machine.{programPart, apply-number, apply-program, apply-pushed, done-checks, done-pushes, target-order}
+use Rattle.plain_machine.proofs.Machine.{programPart, apply-number, apply-program, apply-pushed, done-checks, done-pushes, target-of}
 use Rattle.cuts.specs.Cuts.{Cut, IsCut, levelsAt, pulsesAt, programOf, takenAt, IsWriteOf, AreRetries, AllTaken, lastAnswer, pulsesBefore, RepairsCuts}
 use Rattle.cuts.proofs.Cuts.{first, last, first-cut, last-cut, cut-below, cut-raised, cut-pulses}
 
@@ -35,18 +34,14 @@ module _ (g : Group) (h : IsGroup g) (c : Call) (w : writes (c .kind) ≡ true) 
   passed : (numberOf (earlierChecks g c) ≡ 0) × AtMost (raised g (target g c)) (g .caps)
   passed = done-checks g c w (sym (apply-number g c) ∙ e)
 
-  ranks : List (List ℕ)
-  ranks = singles (target g c)
+  abbrev ranks : List (List ℕ)
+  ranks = target g c
 
   apart : Apart (length (g .levels)) ranks
-  unfolding ranks
-  apart =
-      order-apart (g .n) (target g c) (g .levels) (target-order g (c .target) (c .kind) w (passed .0) .1)
-      (omega (arith, checked-size g (h .passes), h .levels))
+  apart = target-apart g ranks h (target-of g (c .target) (c .kind) w (passed .0))
 
   program : programOf applyOf g c ≡ pushes 1 ranks (g .levels)
-  unfolding ranks
-  program = ap (λ (p : Program). counted (p .count) (p .pushes)) (apply-pushed g c w e) ∙ counted-pushes g (target g c)
+  program = ap (λ (p : Program). counted (p .count) (p .pushes)) (apply-pushed g c w e) ∙ counted-pushes true g ranks
 
   -- the ends are cuts: nothing pushed yet, and all pushed
   pub call-first : let ps = programOf applyOf g c in IsCut ps (first ps) × (levelsAt ps (first ps) (g .levels) ≡ g .levels) × (pulsesAt ps (first ps) ≡ 0)
@@ -55,7 +50,7 @@ module _ (g : Group) (h : IsGroup g) (c : Call) (w : writes (c .kind) ≡ true) 
   pub call-last : (v : ℕ)
       → let ps = programOf applyOf g c in
       IsCut ps (last ps v) × (levelsAt ps (last ps v) (g .levels) ≡ applyOf g c .value .group .levels) × (pulsesAt ps (last ps v) ≡ applyOf g c .value .pulses)
-  unfolding pushed raised ranks
+  unfolding pushed raised
   call-last v =
       let end = last-cut v (program-runs 1 ranks (g .levels) apart) in
       let part = apply-pushed g c w e in
@@ -67,13 +62,13 @@ module _ (g : Group) (h : IsGroup g) (c : Call) (w : writes (c .kind) ≡ true) 
     there = levelsAt (programOf applyOf g c) cut (g .levels)
 
     abbrev pub takenGroup : Group
-    takenGroup = programmed g there
+    takenGroup = programmed true g there
 
     is-cut : IsCut (pushes 1 ranks (g .levels)) cut
     is-cut = rw program at k
 
     low : AtMost there (g .caps)
-    unfolding ranks raised
+    unfolding raised
     low = at-most-trans (rw program (cut-below (program-runs 1 ranks (g .levels) apart) cut is-cut)) (passed .1)
 
     there-row : isRow 4095 (g .n) there ≡ true
@@ -90,7 +85,7 @@ module _ (g : Group) (h : IsGroup g) (c : Call) (w : writes (c .kind) ≡ true) 
     taken-group = group-with g h there (g .caps) true there-row there-twelve (at-most-refl (g .caps))
 
     same-levels : raised takenGroup (target g c) ≡ raised g (target g c)
-    unfolding ranks raised
+    unfolding raised
     same-levels = rw program (cut-raised 1 ranks (g .levels) apart cut is-cut)
 
     has-room : numberOf (pushChecks takenGroup (target g c)) ≡ 0
@@ -106,19 +101,19 @@ module _ (g : Group) (h : IsGroup g) (c : Call) (w : writes (c .kind) ≡ true) 
       again-accepted =
           apply-number takenGroup d
           ∙ done-pushes takenGroup d (a .raises) (a .passes takenGroup refl taken-group)
-          (subst (λ (t : List ℕ). numberOf (pushChecks takenGroup t) ≡ 0) (sym same-target) has-room)
+          (subst (λ (t : List (List ℕ)). numberOf (pushChecks takenGroup t) ≡ 0) (sym same-target) has-room)
 
-      again-pushed : programPart (applyOf takenGroup d .value) ≡ pushed takenGroup (target g c)
-      again-pushed = apply-pushed takenGroup d (a .raises) again-accepted ∙ ap (pushed takenGroup) same-target
+      again-pushed : programPart (applyOf takenGroup d .value) ≡ pushed true takenGroup (target g c)
+      again-pushed = apply-pushed takenGroup d (a .raises) again-accepted ∙ ap (pushed true takenGroup) same-target
 
       again-same : applyOf takenGroup d .value .group ≡ applyOf g c .value .group
       unfolding pushed
       again-same =
-          ap (λ (p : Program). p .group) again-pushed ∙ ap (λ (ls : List ℕ). programmed g ls) same-levels
+          ap (λ (p : Program). p .group) again-pushed ∙ ap (λ (ls : List ℕ). programmed true g ls) same-levels
           ∙ sym (ap (λ (p : Program). p .group) (apply-pushed g c w e))
 
       again-pulses : pulsesAt (programOf applyOf g c) cut + applyOf takenGroup d .value .pulses ≡ applyOf g c .value .pulses
-      unfolding pushed ranks
+      unfolding pushed
       again-pulses =
           let after = ap (λ (p : Program). p .pulses) again-pushed in
           let uncut = ap (λ (p : Program). p .pulses) (apply-pushed g c w e) in

@@ -69,7 +69,7 @@ pulsesAt ps cut = pulsesIn (pushesAt ps cut)
 
 -- ---- the same target, written again
 
-pub record IsWriteOf (n : ℕ) (t : List ℕ) (c : Call) : Type 0 where
+pub record IsWriteOf (n : ℕ) (t : List (List ℕ)) (c : Call) : Type 0 where
   pub raises : writes (c .kind) ≡ true
   pub same : (g : Group) → g .n ≡ n → target g c ≡ t
   pub passes : (g : Group) → g .n ≡ n → IsGroup g → numberOf (earlierChecks g c) ≡ 0

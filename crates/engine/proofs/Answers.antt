@@ -26,6 +26,7 @@ use Rattle.code.specs.Symbols.{wordOf, Reading, noReading, readingAt, codewordC
 use Rattle.code.proofs.Codewords.{symbol-order}
 use Rattle.group.specs.declared.Group.{Group}
 use Rattle.group.specs.Record.{groupChecks}
+use Rattle.push_up.specs.PushUp.{singles}
 use Rattle.push_up.specs.WriteAnswer.{writeChecks, pushChecks, pushed, unpushed, writeOf}
 use Rattle.sensing.specs.Sense.{senseOf}
 use Rattle.group.proofs.Checks.{checked-size}
@@ -118,16 +119,16 @@ module _ (g : Group) where
 -- ---- the write of an order of the group's cells: refused as worn alone
 
 module _ (g : Group) (d : numberOf (groupChecks g) ≡ 0) (w : List ℕ) (t : isOrder (g .n) w ≡ true) where
-  pub write-listed : (checks : List (Bool × Refusal)) → numberOf checks ≡ numberOf (pushChecks g w) → writeOf g (orderRecord w) ≡ answer checks (pushed g w) (unpushed g)
+  pub write-listed : (checks : List (Bool × Refusal)) → numberOf checks ≡ numberOf (pushChecks g (singles w)) → writeOf g (orderRecord w) ≡ answer checks (pushed true g (singles w)) (unpushed g)
   unfolding writeOf
   write-listed checks e =
       let o = orderRecord w in
       let (low, high) = checked-size g d in
       let list : listed o ≡ w = recorded-list (g .n) w t low high in
       let ordered : isOrderOf (g .n) o ≡ true = ap (λ (k : ℕ). isOrderOf k o) (sym (recorded-length (g .n) w t)) ∙ passed o (recorded-passes (g .n) w t low high) .2 in
-      same-answer (writeChecks g o) checks (pushed g (listed o)) (pushed g w) (unpushed g)
+      same-answer (writeChecks g o) checks (pushed true g (singles (listed o))) (pushed true g (singles w)) (unpushed g)
       (later-decide _ (groupChecks g) d ∙ check-holds _ _ ordered ∙ rw list (sym e))
-      (ap (pushed g) list)
+      (ap (λ (xs : List ℕ). pushed true g (singles xs)) list)
 
 -- ---- store
 
@@ -158,7 +159,7 @@ module _ (g : Group) (s : ℕ) where
 
       pub store-no-symbol : {r : Refusal} → a .outcome ≡ Refused r → record { number = outcomeNumber (a .outcome); value = unpushed g } ≡ storeOf g s
       unfolding storeOf
-      store-no-symbol o = passed-on _ _ _ _ (outcome-first (pushChecks g (wordOf (g .n) s)) symbolCheck codeword-number o ∙ sym (later-decide _ (groupChecks g) d)) _ o
+      store-no-symbol o = passed-on _ _ _ _ (outcome-first (pushChecks g (singles (wordOf (g .n) s))) symbolCheck codeword-number o ∙ sym (later-decide _ (groupChecks g) d)) _ o
 
       module _ (o : a .outcome ≡ Done) where
         pub symbol-below : s < K (g .n)

@@ -32,6 +32,7 @@ use Rattle.code.specs.Symbols.{wordOf, verdictAt, readingAt, decodeOf}
 use Rattle.code.proofs.Symbols.{symbol-reads}
 use Rattle.group.specs.declared.Group.{Group}
 use Rattle.group.specs.Record.{groupChecks, IsGroup}
+use Rattle.push_up.specs.PushUp.{singles}
 use Rattle.push_up.specs.WriteAnswer.{Program, pushChecks, pushed, unpushed}
 use Rattle.group.proofs.Checks.{checked-size}
 use Rattle.sensing.proofs.Sensed.{sensed-order}
@@ -67,17 +68,17 @@ module _ (g : Group) (s : ℕ) where
 
   -- what an accepted store knows, and what it leaves
   pub store-accepted : storeOf g s .number ≡ 0
-      → (numberOf (groupChecks g) ≡ 0) × (s < K (g .n)) × (numberOf (pushChecks g word) ≡ 0) × (storeOf g s .value ≡ pushed g word)
+      → (numberOf (groupChecks g) ≡ 0) × (s < K (g .n)) × (numberOf (pushChecks g (singles word)) ≡ 0) × (storeOf g s .value ≡ pushed true g (singles word))
   unfolding storeOf
   store-accepted e =
-      let t = told-accepted _ (pushed g word) (unpushed g) e in
+      let t = told-accepted _ (pushed true g (singles word)) (unpushed g) e in
       let c = all-held _ (groupChecks g) (t .0) in
       let p = check-held (ltb s (K (g .n))) NoSymbol _ (c .1) in
       (c .0, ltb-true s (K (g .n)) (p .0), p .1, t .1)
 
   pub store-group : IsGroup g → IsGroup (storeOf g s .value .group)
   unfolding storeOf
-  store-group h = push-group (λ (p : Program). p .group) g word (groupChecks g ++ (ltb s (K (g .n)), NoSymbol) ∷ []) (pushed g word) (unpushed g) h refl refl
+  store-group h = push-group (λ (p : Program). p .group) true g (singles word) (groupChecks g ++ (ltb s (K (g .n)), NoSymbol) ∷ []) (pushed true g (singles word)) (unpushed g) h refl refl
 
   -- it leaves a written group of as many cells, whose order is the codeword
   abbrev Holding : Group → Type 0
@@ -87,7 +88,7 @@ module _ (g : Group) (s : ℕ) where
   unfolding pushed
   store-holds h e =
       let (d, below, f, left) = store-accepted e in
-      rw left (group-pushed g word h f .passes, refl, refl, raised-sensed g word h (word-order g s d below))
+      rw left (group-pushed true g (singles word) h f .passes, refl, refl, raised-sensed g word h (word-order g s d below))
 
   pub store-reads : IsGroup g → storeOf g s .number ≡ 0 → readOf (storeOf g s .value .group) ≡ record { number = 0; value = record { symbol = s; verdict = some Clean } }
   store-reads h e =

@@ -36,8 +36,10 @@ use Rattle.code.proofs.Codewords.{codeword-word, number-of-codeword}
 use Rattle.code.proofs.Reading.{readingTold, decode-part, corrected-word}
 use Rattle.group.specs.declared.Group.{Group}
 use Rattle.group.specs.Record.{groupChecks, IsGroup}
+use Rattle.push_up.specs.PushUp.{singles}
 use Rattle.push_up.specs.WriteAnswer.{Program, pushed, unpushed, writeOf}
 use Rattle.group.proofs.Checks.{checked-size}
+use Rattle.push_up.proofs.Orders.{order-target}
 use Rattle.push_up.proofs.Writes.{push-group, push-again}
 use Rattle.sensing.proofs.Sensed.{sensed-order}
 use Rattle.engine.specs.declared.ReadAnswer.{ReadAnswer}
@@ -76,7 +78,7 @@ module _ (g : Group) (d : numberOf (readChecks g) ≡ 0) where
   symbol-low = number-below (g .n) pos _ (codeword-word (g .n) pos (wordFound g) found-order found-codeword)
 
   -- to write it is refused where the scrub is, as worn alone
-  write-found : writeOf g (orderRecord (wordFound g)) ≡ answer (scrubChecks g) (pushed g (wordFound g)) (unpushed g)
+  write-found : writeOf g (orderRecord (wordFound g)) ≡ answer (scrubChecks g) (pushed true g (singles (wordFound g))) (unpushed g)
   write-found = write-listed g checks-passed (wordFound g) found-order (scrubChecks g) (later-decide _ (readChecks g) d)
 
   -- and to store the symbol is to write it
@@ -100,8 +102,8 @@ module _ (g : Group) where
     scrub-written = rw (write-found g d) (go (numberOf (scrubChecks g)))
       where
         go : (k : ℕ)
-            → scrubbed g (record { number = k; value = ifDone k (pushed g (wordFound g)) (unpushed g) }) (readingOf g .symbol) (readingOf g .verdict)
-            ≡ record { number = k; value = ifDone k (programmedStep (pushed g (wordFound g)) (readingOf g .symbol) (readingOf g .verdict)) (quiet g) }
+            → scrubbed g (record { number = k; value = ifDone k (pushed true g (singles (wordFound g))) (unpushed g) }) (readingOf g .symbol) (readingOf g .verdict)
+            ≡ record { number = k; value = ifDone k (programmedStep (pushed true g (singles (wordFound g))) (readingOf g .symbol) (readingOf g .verdict)) (quiet g) }
         go zero = refl
         go (suc k) = refl
 
@@ -170,7 +172,7 @@ module _ (g : Group) where
   pub scrub-group : IsGroup g → IsGroup (scrubOf g .value .group)
   unfolding scrubOf
   scrub-group h =
-      push-group (λ (s : Step). s .group) g (wordFound g) (readChecks g) (programmedStep (pushed g (wordFound g)) (readingOf g .symbol) (readingOf g .verdict)) (quiet g) h refl
+      push-group (λ (s : Step). s .group) true g (singles (wordFound g)) (readChecks g) (programmedStep (pushed true g (singles (wordFound g))) (readingOf g .symbol) (readingOf g .verdict)) (quiet g) h refl
       refl
 
 -- a group that was stored to can be scrubbed: no cell has to rise
@@ -184,4 +186,4 @@ store-scrubs g s h e =
     let done : numberOf (readChecks after) ≡ 0 = sym (read-number after) ∙ ap (λ (t : Told Reading). t .number) reads in
     let symbol : readingOf after .symbol ≡ s = ap (λ (t : Told Reading). t .value .symbol) (sym (read-done after done) ∙ reads) in
     let found : wordFound after ≡ wordOf (g .n) s = sym (symbol-word after done) ∙ rw (symbol, n) in
-    later-decide _ (readChecks after) done ∙ rw (found, left) (push-again g (wordOf (g .n) s) h (word-order g s d below) f)
+    later-decide _ (readChecks after) done ∙ rw (found, left) (push-again true g (singles (wordOf (g .n) s)) h (order-target (g .n) (wordOf (g .n) s) (word-order g s d below)) f)

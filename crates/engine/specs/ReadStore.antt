@@ -9,7 +9,7 @@
 --   toldRead, toldAlike   what an answer says: its number, and the reading, or yes or no
 --   readOf, storeOf, alikeOf    the answers to the calls
 use Prim.Native.Nat.{ℕ}
-use mathlib.Core.Bool.{Bool, false, _&&_}
+use mathlib.Core.Bool.{Bool, true, false, _&&_}
 use mathlib.Core.List.{List, [], _∷_, _++_}
 use mathlib.Core.Option.{some}
 use lib.Dec.{eqb, ltb}
@@ -22,6 +22,7 @@ use Rattle.code.specs.Symbols.{wordOf, Reading, noReading, readingAt}
 use Rattle.group.specs.declared.Group.{Group}
 use Rattle.group.specs.Record.{groupChecks}
 use Rattle.sensing.specs.Sense.{sensed}
+use Rattle.push_up.specs.PushUp.{singles}
 use Rattle.push_up.specs.WriteAnswer.{Program, pushChecks, pushed, unpushed}
 use Rattle.engine.specs.declared.ReadAnswer.{ReadAnswer}
 use Rattle.engine.specs.declared.ReadAnswer.the-variants as read
@@ -55,10 +56,10 @@ readOf g = answer (readChecks g) (readingOf g) noReading
 -- ---- store
 
 abbrev pub storeChecks : Group → ℕ → List (Bool × Refusal)
-storeChecks g s = groupChecks g ++ (ltb s (K (g .n)), NoSymbol) ∷ pushChecks g (wordOf (g .n) s)
+storeChecks g s = groupChecks g ++ (ltb s (K (g .n)), NoSymbol) ∷ pushChecks g (singles (wordOf (g .n) s))
 
 unfoldable pub storeOf : Group → ℕ → Told Program
-storeOf g s = answer (storeChecks g s) (pushed g (wordOf (g .n) s)) (unpushed g)
+storeOf g s = answer (storeChecks g s) (pushed true g (singles (wordOf (g .n) s))) (unpushed g)
 
 -- ---- alike
 

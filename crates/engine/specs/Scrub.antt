@@ -10,7 +10,7 @@
 --   scrubChecks g       the checks of a scrub: 1, 2, 6, 7, 8
 --   scrubOf g           the answer to `scrub`: read, then write the codeword found
 use Prim.Native.Nat.{ℕ}
-use mathlib.Core.Bool.{Bool}
+use mathlib.Core.Bool.{Bool, true}
 use mathlib.Core.List.{List, [], _++_}
 use mathlib.Core.Option.{Option, none, some}
 use Rattle.order.specs.declared.Refusal.{Refusal}
@@ -20,6 +20,7 @@ use Rattle.code.specs.declared.Verdict.{Verdict}
 use Rattle.code.specs.Symbols.{Reading}
 use Rattle.group.specs.declared.Group.{Group}
 use Rattle.push_up.specs.declared.Push.{Push}
+use Rattle.push_up.specs.PushUp.{singles}
 use Rattle.push_up.specs.WriteAnswer.{Program, pushArray, pushChecks, pushed}
 use Rattle.engine.specs.declared.Judged.{Judged}
 use Rattle.engine.specs.declared.Judged.the-variants.{Nothing, By}
@@ -67,10 +68,10 @@ abbrev pub wordFound : Group → List ℕ
 wordFound g = exchange (placeRead g) (sensedOrder g)
 
 abbrev pub scrubChecks : Group → List (Bool × Refusal)
-scrubChecks g = readChecks g ++ pushChecks g (wordFound g)
+scrubChecks g = readChecks g ++ pushChecks g (singles (wordFound g))
 
 unfoldable pub scrubOf : Group → Told Step
-scrubOf g = answer (scrubChecks g) (programmedStep (pushed g (wordFound g)) (readingOf g .symbol) (readingOf g .verdict)) (quiet g)
+scrubOf g = answer (scrubChecks g) (programmedStep (pushed true g (singles (wordFound g))) (readingOf g .symbol) (readingOf g .verdict)) (quiet g)
 
 -- ---- a read, as an answer of the machine
 

@@ -11,7 +11,7 @@
 --   noGroup             the all-zero record
 --   changed g ls cs w   the record with these levels, caps and mark, and all else as it was
 --   withLevels g ls, withCaps g cs    the record with other levels, or other caps
---   programmed g ls     the record with these levels, written
+--   programmed w g ls   the record with these levels and the mark w
 --   erased g            all levels 0, mark cleared, caps kept
 use Prim.Native.Nat.{ℕ, _-_}
 use mathlib.Core.Path.{_≡_}
@@ -60,8 +60,8 @@ withLevels g ls = changed g ls (g .caps) (g .written)
 abbrev pub withCaps : Group → List ℕ → Group
 withCaps g cs = changed g (g .levels) cs (g .written)
 
-abbrev pub programmed : Group → List ℕ → Group
-programmed g ls = changed g ls (g .caps) true
+abbrev pub programmed : Bool → Group → List ℕ → Group
+programmed w g ls = changed g ls (g .caps) w
 
 abbrev pub erased : Group → Group
 erased g = changed g (replicate 12 0) (g .caps) false

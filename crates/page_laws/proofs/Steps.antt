@@ -212,7 +212,7 @@ one-refused g c true r = let e = apply-refused g c (r refl) in (ap (λ (s : Step
 one-refused g c false r = (refl, refl)
 
 -- and a rival that has such a list stays where it stands
-moved-not : (k : ℕ) (kind : Kind) (t : List ℕ) (r s : Rival) → k ≢ 0 → Moves k kind t r s → s ≡ r
+moved-not : (k : ℕ) (kind : Kind) (t : List (List ℕ)) (r s : Rival) → k ≢ 0 → Moves k kind t r s → s ≡ r
 unfolding Moves
 moved-not zero kind t r s z m = absurd (z refl)
 moved-not (suc k) kind t r s z m = m

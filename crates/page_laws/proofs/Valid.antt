@@ -27,9 +27,9 @@ use Rattle.group.proofs.Levels.{level-put, at-most-level, at-most-true}
 use Rattle.group.specs.Record.{groupChecks, IsGroup, opened, noGroup, withCaps}
 use Rattle.group.specs.Changes.{wearChecks, openOf, wearOf}
 use Rattle.group.proofs.Groups.{told-accepted, open-group}
-use Rattle.push_up.specs.PushUp.{singles, Shows}
+use Rattle.push_up.specs.PushUp.{singles}
 use Rattle.push_up.specs.WriteAnswer.{raised, fits}
-use Rattle.push_up.proofs.Orders.{Falling, shows-falling}
+use Rattle.push_up.proofs.Orders.{order-target, Falling, shows-falling}
 use Rattle.push_up.proofs.Writes.{raised-shows}
 use Rattle.plain_machine.specs.declared.Kind.the-variants.{Wear}
 use Rattle.plain_machine.specs.declared.Call.{Call}
@@ -133,11 +133,11 @@ module _ (n : ℕ) (fits-size : isSize n ≡ true) (s : ℕ) where
   worn-is-group = rw wear-done at (apply-group (opened n) (wearing n s) (opened-group n fits-size))
 
   -- raised, the top cell would stand above another
-  top-raised : 1 ≤ level (raised worn-group word) on-top
+  top-raised : 1 ≤ level (raised worn-group (singles word)) on-top
   unfolding Falling
   top-raised =
-      let shows : Shows 1 (singles word) (raised worn-group word) = raised-shows worn-group word worn-is-group word-listed in
-      omega (arith, shows-falling 1 word (raised worn-group word) shows 0 (omega (arith, order-true n word word-listed .size, size-true n fits-size)))
+      let shows = raised-shows worn-group (singles word) worn-is-group (order-target n word word-listed) in
+      omega (arith, shows-falling 1 word (raised worn-group (singles word)) shows 0 (omega (arith, order-true n word word-listed .size, size-true n fits-size)))
 
   cap-none : level (worn-group .caps) on-top ≡ 0
   cap-none = level-put (opened n .caps) on-top 0 (omega (arith, top-range, size-true n fits-size, opened-group n fits-size .caps))
@@ -148,11 +148,11 @@ module _ (n : ℕ) (fits-size : isSize n ≡ true) (s : ℕ) where
       apply-number worn-group (storeCall s)
       ∙ worn-beyond worn-group (storeCall s) refl
       (later-decide _ (groupChecks worn-group) (worn-is-group .passes) ∙ check-holds NoSymbol [] (lt-ltb s (K n) below) ∙ all-hold)
-      (go (fits worn-group word) refl)
+      (go (fits worn-group (singles word)) refl)
     where
-      go : (b : Bool) → fits worn-group word ≡ b → fits worn-group word ≡ false
+      go : (b : Bool) → fits worn-group (singles word) ≡ b → fits worn-group (singles word) ≡ false
       go false e = e
-      go true e = absurd (omega (arith, top-raised, cap-none, at-most-level on-top (at-most-true (raised worn-group word) (worn-group .caps) e)))
+      go true e = absurd (omega (arith, top-raised, cap-none, at-most-level on-top (at-most-true (raised worn-group (singles word)) (worn-group .caps) e)))
 
 module _ (n : ℕ) (p : Page) (o : OpenedPage n p) (ss : List ℕ) (each : length ss ≡ p .count) (there : (k : ℕ) → among (p .count) k ≡ true → symbolAt ss k < K n) (i : ℕ)
     (inside : i < p .count) where

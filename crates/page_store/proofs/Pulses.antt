@@ -3,6 +3,7 @@
 use Prim.Native.Nat.{ℕ, _≤_, zero-le}
 use native.Mathlib.Omega.{arith}
 use mathlib.Core.Path.{_≡_, refl, sym, _∙_}
+use mathlib.Core.Bool.{true}
 use lib.ListN.{length}
 use Rattle.order.specs.Refusals.{numberOf}
 use Rattle.order.proofs.Refusals.{check-held, all-held}
@@ -19,6 +20,7 @@ use Rattle.group.proofs.Groups.{told-value}
 use Rattle.push_up.specs.PushUp.{singles}
 use Rattle.push_up.specs.WriteAnswer.{Program, raised, fits, pushChecks, pushed, unpushed}
 use Rattle.push_up.proofs.Minimal.{raise-above}
+use Rattle.push_up.proofs.Orders.{order-target}
 use Rattle.push_up.proofs.Programs.{counted-pulses, counted-program}
 use Rattle.push_up.proofs.Writes.{push-held}
 use Rattle.engine.specs.ReadStore.{storeChecks, storeOf}
@@ -28,22 +30,22 @@ module _ (g : Group) (s : ℕ) where
   store-levels : length (storeOf g s .value .group .levels) ≡ length (g .levels)
   unfolding storeOf pushed raised
   store-levels =
-      told-value (λ (p : Program). length (p .group .levels) ≡ length (g .levels)) (storeChecks g s) (pushed g (wordOf (g .n) s)) (unpushed g)
+      told-value (λ (p : Program). length (p .group .levels) ≡ length (g .levels)) (storeChecks g s) (pushed true g (singles (wordOf (g .n) s))) (unpushed g)
       (λ e. sym (at-most-length (raise-above 1 (singles (wordOf (g .n) s)) (g .levels))))
       refl
 
-  word-pulses : length (g .levels) ≡ 12 → numberOf (groupChecks g) ≡ 0 → numberOf (pushChecks g (wordOf (g .n) s)) ≡ 0 → pushed g (wordOf (g .n) s) .pulses ≤ 49140
+  word-pulses : length (g .levels) ≡ 12 → numberOf (groupChecks g) ≡ 0 → numberOf (pushChecks g (singles (wordOf (g .n) s))) ≡ 0 → pushed true g (singles (wordOf (g .n) s)) .pulses ≤ 49140
   unfolding fits wordOf pushed
   word-pulses twelve d f =
-      let word = wordOf (g .n) s in
-      let order = order-of-any (coordinateAt (wordAt (g .n) s)) (g .n) in
-      let program = counted-program g word order (omega (arith, twelve, checked-size g d)) in
-      let row = row-below 4095 (g .n) (at-most-true (raised g word) (g .caps) (push-held g word f)) (checked-caps g d) in
-      omega (arith, twelve, counted-pulses g word, program .pulses, rises-most (g .levels) (raised g word) (row-true 4095 (g .n) (raised g word) row))
+      let t = singles (wordOf (g .n) s) in
+      let target = order-target (g .n) (wordOf (g .n) s) (order-of-any (coordinateAt (wordAt (g .n) s)) (g .n)) in
+      let program = counted-program true g t target (omega (arith, twelve, checked-size g d)) in
+      let row = row-below 4095 (g .n) (at-most-true (raised g t) (g .caps) (push-held g t f)) (checked-caps g d) in
+      omega (arith, twelve, counted-pulses true g t, program .pulses, rises-most (g .levels) (raised g t) (row-true 4095 (g .n) (raised g t) row))
 
   pub store-pulses : length (storeOf g s .value .group .levels) ≡ 12 → storeOf g s .value .pulses ≤ 49140
   unfolding storeOf
   store-pulses twelve =
-      told-value (λ (p : Program). p .pulses ≤ 49140) (storeChecks g s) (pushed g (wordOf (g .n) s)) (unpushed g)
+      told-value (λ (p : Program). p .pulses ≤ 49140) (storeChecks g s) (pushed true g (singles (wordOf (g .n) s))) (unpushed g)
       (λ e. let t = all-held _ (groupChecks g) e in word-pulses (sym store-levels ∙ twelve) (t .0) (check-held _ _ _ (t .1) .1))
       zero-le

@@ -32,6 +32,7 @@ use Rattle.group.specs.Changes.{cellChecks, wearChecks, leakOf, wearOf, eraseOf
 use Rattle.group.proofs.Levels.{at-most-refl, at-most-true, rises-down, leaked-below}
 use Rattle.group.proofs.Checks.{checked-size}
 use Rattle.group.proofs.Groups.{by-number, leak-group, wear-group, erase-group}
+use Rattle.push_up.proofs.Orders.{TargetOf, order-target}
 use Rattle.push_up.proofs.Writes.{push-held, pushes-few, write-group, raised-shows}
 use Rattle.push_up.specs.PushProgram.{counted, IsPushProgram}
 use Rattle.push_up.proofs.Programs.{counted-pulses, counted-program, no-pushes}
@@ -54,10 +55,10 @@ abbrev readStep : Group → Reading → Step
 readStep g r = record { group = g; symbol = r .symbol; verdict = r .verdict; pulses = 0; count = 0; pushes = pushArray [] }
 
 abbrev pub acceptBy : Group → Order → Kind → Step
-acceptBy g o Write = programmedStep (pushed g (listed o)) 0 none
-acceptBy g o (WriteInto room) = programmedStep (pushed g (listed o)) 0 none
-acceptBy g o (Store s) = programmedStep (pushed g (wordOf (g .n) s)) s none
-acceptBy g o Scrub = programmedStep (pushed g (wordFound g)) (readingOf g .symbol) (readingOf g .verdict)
+acceptBy g o Write = programmedStep (pushed true g (singles (listed o))) 0 none
+acceptBy g o (WriteInto room) = programmedStep (pushed true g (singles (listed o))) 0 none
+acceptBy g o (Store s) = programmedStep (pushed true g (singles (wordOf (g .n) s))) s none
+acceptBy g o Scrub = programmedStep (pushed true g (singles (wordFound g))) (readingOf g .symbol) (readingOf g .verdict)
 acceptBy g o (Leak c d) = quiet (withLevels g (leaked (c .0) d (g .levels)))
 acceptBy g o (Wear c cap) = quiet (withCaps g (put (g .caps) (c .0) cap))
 acceptBy g o Erase = quiet (erased g)
@@ -70,7 +71,7 @@ accept g c = acceptBy g (c .target) (c .kind)
 abbrev pub programPart : Step → Program
 programPart s = record { group = s .group; pulses = s .pulses; count = s .count; pushes = s .pushes }
 
-accept-pushed : (g : Group) (o : Order) (k : Kind) → writes k ≡ true → programPart (acceptBy g o k) ≡ pushed g (targetBy g o k)
+accept-pushed : (g : Group) (o : Order) (k : Kind) → writes k ≡ true → programPart (acceptBy g o k) ≡ pushed true g (targetBy g o k)
 accept-pushed g o Write w = refl
 accept-pushed g o (WriteInto room) w = refl
 accept-pushed g o (Store s) w = refl
@@ -135,7 +136,7 @@ unfolding applyOf answer
 apply-value g c = ap (λ (t : Told Step). t .value) (apply-by g (c .target) (c .kind))
 
 -- an accepted one carries the push-up to its target
-pub apply-pushed : (g : Group) (c : Call) → writes (c .kind) ≡ true → applyOf g c .number ≡ 0 → programPart (applyOf g c .value) ≡ pushed g (target g c)
+pub apply-pushed : (g : Group) (c : Call) → writes (c .kind) ≡ true → applyOf g c .number ≡ 0 → programPart (applyOf g c .value) ≡ pushed true g (target g c)
 apply-pushed g c w e = rw (apply-value g c, sym (apply-number g c) ∙ e) (accept-pushed g (c .target) (c .kind) w)
 
 -- a refused call leaves the record, so that the machine goes where it goes by its accepted calls alone
@@ -190,29 +191,35 @@ module _ (g : Group) (c : Call) (w : writes (c .kind) ≡ true) where
 -- ---- targets
 
 -- past the earlier checks of a write, the record is a group and the target an order of its cells
-pub target-order : (g : Group) (o : Order) (k : Kind) → writes k ≡ true → numberOf (earlierBy g o k) ≡ 0 → (numberOf (groupChecks g) ≡ 0) × (isOrder (g .n) (targetBy g o k) ≡ true)
+pub target-order : (g : Group) (o : Order) (k : Kind) → writes k ≡ true → numberOf (earlierBy g o k) ≡ 0
+    → (numberOf (groupChecks g) ≡ 0) × (xs : List ℕ) × (isOrder (g .n) xs ≡ true) × (targetBy g o k ≡ singles xs)
 unfolding wordOf
 target-order g o Write w e =
     let t = all-held _ (groupChecks g) e in
-    (t .0, order-parts (g .n) o (check-held (isOrderOf (g .n) o) NoOrder [] (t .1) .0) .1 .order)
+    (t .0, listed o, order-parts (g .n) o (check-held (isOrderOf (g .n) o) NoOrder [] (t .1) .0) .1 .order, refl)
 target-order g o (WriteInto room) w e =
     let t = all-held _ (groupChecks g) e in
     let roomy = check-held (leb (g .n - 1) room) ListShort _ (t .1) in
-    (t .0, order-parts (g .n) o (check-held (isOrderOf (g .n) o) NoOrder [] (roomy .1) .0) .1 .order)
-target-order g o (Store s) w e = (all-held _ (groupChecks g) e .0, order-of-any (coordinateAt (wordAt (g .n) s)) (g .n))
-target-order g o Scrub w e = (all-held _ (groupChecks g) e .0, exchange-order (g .n) (sensedOrder g) (sensed-order (g .n) (g .levels)) (placeRead g))
+    (t .0, listed o, order-parts (g .n) o (check-held (isOrderOf (g .n) o) NoOrder [] (roomy .1) .0) .1 .order, refl)
+target-order g o (Store s) w e = (all-held _ (groupChecks g) e .0, wordOf (g .n) s, order-of-any (coordinateAt (wordAt (g .n) s)) (g .n), refl)
+target-order g o Scrub w e =
+    (all-held _ (groupChecks g) e .0, wordFound g, exchange-order (g .n) (sensedOrder g) (sensed-order (g .n) (g .levels)) (placeRead g), refl)
 target-order g o (Leak c d) w e = absurd (false≢true w)
 target-order g o (Wear c cap) w e = absurd (false≢true w)
 target-order g o Erase w e = absurd (false≢true w)
 target-order g o Read w e = absurd (false≢true w)
 
+-- so it is a target of them
+pub target-of : (g : Group) (o : Order) (k : Kind) → writes k ≡ true → numberOf (earlierBy g o k) ≡ 0 → TargetOf (g .n) (targetBy g o k)
+target-of g o k w e = let (_, xs, t, same) = target-order g o k w e in rw same (order-target (g .n) xs t)
+
 -- at most n - 1 pushes
 accept-few : (g : Group) (o : Order) (k : Kind) → numberOf (earlierBy g o k) ≡ 0 → acceptBy g o k .count ≤ g .n - 1
 unfolding pushed
-accept-few g o Write e = pushes-few g _ (target-order g o Write refl e .1)
-accept-few g o (WriteInto room) e = pushes-few g _ (target-order g o (WriteInto room) refl e .1)
-accept-few g o (Store s) e = pushes-few g _ (target-order g o (Store s) refl e .1)
-accept-few g o Scrub e = pushes-few g _ (target-order g o Scrub refl e .1)
+accept-few g o Write e = pushes-few true g _ (target-of g o Write refl e)
+accept-few g o (WriteInto room) e = pushes-few true g _ (target-of g o (WriteInto room) refl e)
+accept-few g o (Store s) e = pushes-few true g _ (target-of g o (Store s) refl e)
+accept-few g o Scrub e = pushes-few true g _ (target-of g o Scrub refl e)
 accept-few g o (Leak c d) e = zero-le
 accept-few g o (Wear c cap) e = zero-le
 accept-few g o Erase e = zero-le
@@ -226,8 +233,8 @@ apply-few g c =
 
 -- past the earlier checks, a write shows its target
 pub target-shows : (g : Group) (c : Call) → IsGroup g → writes (c .kind) ≡ true → numberOf (earlierChecks g c) ≡ 0
-    → Shows 1 (singles (target g c)) (raised g (target g c))
-target-shows g c h w e = raised-shows g (target g c) h (target-order g (c .target) (c .kind) w e .1)
+    → Shows 1 (target g c) (raised g (target g c))
+target-shows g c h w e = raised-shows g (target g c) h (target-of g (c .target) (c .kind) w e)
 
 -- ---- the push program that an answer carries
 
@@ -236,10 +243,9 @@ carried s = counted (s .count) (s .pushes)
 
 module _ (g : Group) (o : Order) (twelve : length (g .levels) ≡ 12) where
   target-program : (k : Kind) → writes k ≡ true → numberOf (earlierBy g o k) ≡ 0
-      → let p = pushed g (targetBy g o k) in IsPushProgram (counted (p .count) (p .pushes)) (g .levels) (p .group .levels)
+      → let p = pushed true g (targetBy g o k) in IsPushProgram (counted (p .count) (p .pushes)) (g .levels) (p .group .levels)
   target-program k w e =
-      let t = target-order g o k w e in
-      counted-program g _ (t .1) (omega (arith, twelve, checked-size g (t .0)))
+      counted-program true g _ (target-of g o k w e) (omega (arith, twelve, checked-size g (target-order g o k w e .0)))
 
   accept-program : (k : Kind) → writes k ≡ true → numberOf (earlierBy g o k) ≡ 0 → IsPushProgram (carried (acceptBy g o k)) (g .levels) (acceptBy g o k .group .levels)
   accept-program k w e =
@@ -256,10 +262,10 @@ apply-program g c twelve w =
 -- the pulses of any answer are those of the pushes that it carries
 accept-pulses : (g : Group) (o : Order) (k : Kind) → acceptBy g o k .pulses ≡ pulsesIn (carried (acceptBy g o k))
 unfolding pulsesIn
-accept-pulses g o Write = counted-pulses g _
-accept-pulses g o (WriteInto room) = counted-pulses g _
-accept-pulses g o (Store s) = counted-pulses g _
-accept-pulses g o Scrub = counted-pulses g _
+accept-pulses g o Write = counted-pulses true g _
+accept-pulses g o (WriteInto room) = counted-pulses true g _
+accept-pulses g o (Store s) = counted-pulses true g _
+accept-pulses g o Scrub = counted-pulses true g _
 accept-pulses g o (Leak c d) = refl
 accept-pulses g o (Wear c cap) = refl
 accept-pulses g o Erase = refl

@@ -2,7 +2,7 @@
 -- the list, that is, how many places it has; its pushes come by value here too, and `push_list::write_into` puts them into the list.
 --
 --   writes k            the calls that raise cells: write, store and scrub
---   target g c          the order that such a call is to show; another call has the empty target
+--   target g c          the target that such a call is to show, an order; another call has the empty target
 --   earlierChecks g c   the checks of a call that run before 8, in the order in which they run
 --   checks g c          all of them: a write, a store or a scrub is checked for 8 last
 --   applyOf g c         the answer to `apply`: one call of the plain machine
@@ -24,6 +24,7 @@ use Rattle.code.specs.Symbols.{wordOf}
 use Rattle.group.specs.declared.Group.{Group}
 use Rattle.group.specs.Record.{groupChecks}
 use Rattle.group.specs.Changes.{cellChecks, wearChecks, leakOf, wearOf, eraseOf}
+use Rattle.push_up.specs.PushUp.{singles}
 use Rattle.push_up.specs.WriteAnswer.{Program, pushChecks, writeOf}
 use Rattle.push_list.specs.LentWrite.{writeIntoOf}
 use Rattle.engine.specs.ReadStore.{readChecks, readOf, storeOf}
@@ -44,17 +45,17 @@ writes (Wear c cap) = false
 writes Erase = false
 writes Read = false
 
-abbrev pub targetBy : Group → Order → Kind → List ℕ
-targetBy g o Write = listed o
-targetBy g o (WriteInto room) = listed o
-targetBy g o (Store s) = wordOf (g .n) s
-targetBy g o Scrub = wordFound g
+abbrev pub targetBy : Group → Order → Kind → List (List ℕ)
+targetBy g o Write = singles (listed o)
+targetBy g o (WriteInto room) = singles (listed o)
+targetBy g o (Store s) = singles (wordOf (g .n) s)
+targetBy g o Scrub = singles (wordFound g)
 targetBy g o (Leak c d) = []
 targetBy g o (Wear c cap) = []
 targetBy g o Erase = []
 targetBy g o Read = []
 
-abbrev pub target : Group → Call → List ℕ
+abbrev pub target : Group → Call → List (List ℕ)
 target g c = targetBy g (c .target) (c .kind)
 
 abbrev pub earlierBy : Group → Order → Kind → List (Bool × Refusal)

@@ -18,8 +18,10 @@ use Rattle.order.proofs.Check.{order-parts}
 use Rattle.group.specs.declared.Group.{Group}
 use Rattle.push_up.specs.declared.Push.{Push}
 use Rattle.group.specs.Record.{groupChecks}
+use Rattle.push_up.specs.PushUp.{singles}
 use Rattle.push_up.specs.WriteAnswer.{Program, writeOf}
 use Rattle.group.proofs.Checks.{checked-size}
+use Rattle.push_up.proofs.Orders.{order-target}
 use Rattle.push_up.proofs.Writes.{pushes-few}
 use Rattle.push_list.specs.LentWrite.{intoChecks, writeIntoOf, filled, listAfter}
 
@@ -53,7 +55,7 @@ module _ (g : Group) (o : Order) where
       let t = all-held _ (groupChecks g) e in
       let r = check-held _ _ _ (t .1) in
       let enough : g .n - 1 ≤ room = leb-true _ _ (r .0) in
-      let short = pushes-few g (listed o) (order-parts (g .n) o (check-held _ _ _ (r .1) .0) .1 .order) in
+      let short = pushes-few true g (singles (listed o)) (order-target (g .n) (listed o) (order-parts (g .n) o (check-held _ _ _ (r .1) .0) .1 .order)) in
       rw e (omega (arith, short, checked-size g (t .0)), omega (arith, short, enough)))
       (λ k e. rw e (zero-le, zero-le))
 

@@ -4,6 +4,7 @@
 use Prim.Native.Nat.{ℕ, _-_, _≤_, _<_}
 use native.Mathlib.Omega.{arith}
 use mathlib.Core.Path.{_≡_, refl, sym, ap, _∙_}
+use mathlib.Core.Bool.{true}
 use mathlib.Core.List.{List, _++_}
 use lib.ListN.{length, drop}
 use lib.Seq.{take-at}
@@ -22,6 +23,7 @@ use Rattle.push_up.specs.WriteAnswer.{Program, pushed, unpushed, writeOf}
 use Rattle.push_up.specs.PushProgram.{counted, IsPushProgram}
 use Rattle.push_up.proofs.Programs.{counted-pulses, counted-program, no-pushes}
 use Rattle.group.proofs.Checks.{checked-size}
+use Rattle.push_up.proofs.Orders.{order-target}
 use Rattle.push_up.proofs.Writes.{group-pushed}
 use Rattle.push_list.specs.LentWrite.{intoChecks, writeIntoOf, filled, listAfter}
 use Rattle.push_list.proofs.Plans.{either, filledBy, plan-list, room-written}
@@ -40,7 +42,7 @@ module _ (g : Group) (o : Order) where
   unfolding writeIntoOf answer
   into-group room h =
       either (numberOf (intoChecks g o room))
-      (λ e. rw e (group-pushed g (listed o) h (check-held _ _ _ (check-held _ _ _ (all-held _ (groupChecks g) e .1) .1) .1))) (λ k e. rw e h)
+      (λ e. rw e (group-pushed true g (singles (listed o)) h (check-held _ _ _ (check-held _ _ _ (all-held _ (groupChecks g) e .1) .1) .1))) (λ k e. rw e h)
 
   -- ---- refused
 
@@ -76,15 +78,15 @@ module _ (g : Group) (o : Order) where
     pub list-pulses : let p = writeIntoOf g o (length list) .value in p .pulses ≡ pulsesIn (counted (p .count) (listAfter g o list))
     unfolding writeIntoOf answer pulsesIn
     list-pulses =
-        rw list-counted (either (numberOf (intoChecks g o (length list))) (λ e. rw e (counted-pulses g (listed o))) (λ k e. rw e))
+        rw list-counted (either (numberOf (intoChecks g o (length list))) (λ e. rw e (counted-pulses true g (singles (listed o)))) (λ k e. rw e))
 
     pub list-program : length (g .levels) ≡ 12
         → let p = writeIntoOf g o (length list) .value in IsPushProgram (counted (p .count) (listAfter g o list)) (g .levels) (p .group .levels)
     unfolding writeIntoOf answer
     list-program twelve = rw list-counted (either (numberOf (intoChecks g o (length list))) (λ e. rw e (accepted-program e)) (λ k e. rw e (no-pushes (g .levels))))
       where
-        accepted-program : numberOf (intoChecks g o (length list)) ≡ 0 → let p = pushed g (listed o) in IsPushProgram (counted (p .count) (p .pushes)) (g .levels) (p .group .levels)
+        accepted-program : numberOf (intoChecks g o (length list)) ≡ 0 → let p = pushed true g (singles (listed o)) in IsPushProgram (counted (p .count) (p .pushes)) (g .levels) (p .group .levels)
         accepted-program e =
             let s = all-held _ (groupChecks g) e in
             let ordered = check-held _ _ _ (check-held _ _ _ (s .1) .1) .0 in
-            counted-program g (listed o) (order-parts (g .n) o ordered .1 .order) (omega (arith, twelve, checked-size g (s .0)))
+            counted-program true g (singles (listed o)) (order-target (g .n) (listed o) (order-parts (g .n) o ordered .1 .order)) (omega (arith, twelve, checked-size g (s .0)))

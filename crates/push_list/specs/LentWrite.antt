@@ -8,7 +8,7 @@
 --   filled k ps list        the first k of the pushes, then the later places of the list as they were
 --   listAfter g o list      the lent list after the call: the pushes first and the later places untouched; a refusal leaves it as it was
 use Prim.Native.Nat.{ℕ, _-_}
-use mathlib.Core.Bool.{Bool}
+use mathlib.Core.Bool.{Bool, true}
 use mathlib.Core.List.{List, _∷_, _++_}
 use lib.Dec.{leb}
 use lib.ListN.{length, take, drop}
@@ -20,6 +20,7 @@ use Rattle.order.specs.Order.{listed, isOrderOf}
 use Rattle.group.specs.declared.Group.{Group}
 use Rattle.push_up.specs.declared.Push.{Push}
 use Rattle.group.specs.Record.{groupChecks}
+use Rattle.push_up.specs.PushUp.{singles}
 use Rattle.push_up.specs.WriteAnswer.{Program, pushChecks, pushed, unpushed}
 use Rattle.push_list.specs.declared.WrittenInto.{WrittenInto}
 
@@ -27,10 +28,10 @@ use Rattle.push_list.specs.declared.WrittenInto.{WrittenInto}
 
 abbrev pub intoChecks : Group → Order → ℕ → List (Bool × Refusal)
 intoChecks g o room =
-    groupChecks g ++ (leb (g .n - 1) room, ListShort) ∷ (isOrderOf (g .n) o, NoOrder) ∷ pushChecks g (listed o)
+    groupChecks g ++ (leb (g .n - 1) room, ListShort) ∷ (isOrderOf (g .n) o, NoOrder) ∷ pushChecks g (singles (listed o))
 
 unfoldable pub writeIntoOf : Group → Order → ℕ → Told Program
-writeIntoOf g o room = answer (intoChecks g o room) (pushed g (listed o)) (unpushed g)
+writeIntoOf g o room = answer (intoChecks g o room) (pushed true g (singles (listed o))) (unpushed g)
 
 pub record Carried : Type 0 where
   pub group : Group

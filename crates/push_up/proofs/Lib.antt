@@ -6,3 +6,4 @@ pub mod Told
 pub mod Row
 pub mod Writes
 pub mod Stairs
+pub mod OneMore

@@ -1,11 +1,11 @@
--- Orders as targets of a push-up: their cells stand apart, so that the push-up shows them, and what showing says.
+-- Targets of a push-up: what every one of n cells has, and that an order has it, so that the push-up shows it; and what showing an order says.
 -- Assumes nothing.
-use Prim.Native.Nat.{_+_, ℕ, zero, suc, _≤_, _<_}
-use mathlib.Core.Path.{_≡_, refl}
+use Prim.Native.Nat.{_+_, ℕ, zero, suc, _-_, _≤_, _<_}
+use mathlib.Core.Path.{_≡_, refl, ap}
 use mathlib.Core.Bool.{true}
 use mathlib.Core.Logic.{_↔_, ⊎-elim}
-use mathlib.Core.List.{List, [], _∷_}
-use native.Mathlib.Nat.{not-suc-le-zero, le-of-suc-le-suc, le-trans}
+use mathlib.Core.List.{List, [], _∷_, flatten}
+use native.Mathlib.Nat.{not-suc-le-zero, le-of-suc-le-suc, le-refl, le-trans}
 use native.Mathlib.Omega.{arith}
 use lib.ListN.{length, getD, drop}
 use Rattle.order.specs.Cells.{count, isOrder}
@@ -13,6 +13,7 @@ use Rattle.order.proofs.Cells.{IsOrder, order-true, order-count, order-past, be
 use Rattle.group.specs.Levels.{level}
 use Rattle.push_up.specs.PushUp.{singles, top, floorOver, Reach, Shows, raise}
 use Rattle.push_up.proofs.Minimal.{OffAll, Apart, raise-shows}
+use Rattle.push_up.proofs.Pushes.{cellsAbove, singles-above}
 
 -- ---- cells of 1 to n, none doubled
 
@@ -81,6 +82,24 @@ cells-apart : {n : ℕ} (m : ℕ) (cs : List ℕ) → n ≤ m → CellsOf n cs �
 unfolding singles Apart
 cells-apart m [] l s = tt
 cells-apart m (c ∷ cs) l s = ((((first-low s, le-trans (first-high s) l), (tt, cells-off s)), tt), cells-apart m cs l (cells-tail s))
+
+-- ---- targets
+
+-- the cells of an order's ranks are its own
+pub flatten-singles : (xs : List ℕ) → flatten (singles xs) ≡ xs
+unfolding flatten singles
+flatten-singles [] = refl
+flatten-singles (x ∷ xs) = ap (λ (ys : List ℕ). x ∷ ys) (flatten-singles xs)
+
+-- a target of n cells: they stand apart, and one at least is on the lowest rank
+pub record TargetOf (n : ℕ) (t : List (List ℕ)) : Type 0 where
+  pub apart : Apart n t
+  pub few : cellsAbove t ≤ n - 1
+
+pub order-target : (n : ℕ) (xs : List ℕ) → isOrder n xs ≡ true → TargetOf n (singles xs)
+order-target n xs e =
+    let o = order-true n xs e in
+    record { apart = cells-apart n xs (le-refl n) (order-cells n xs o); few = omega (arith, singles-above xs, o .size) }
 
 -- the cells of an order stand apart, so that it shows after its push-up
 pub order-apart : (n : ℕ) (xs ls : List ℕ) → isOrder n xs ≡ true → n ≤ length ls → Apart (length ls) (singles xs)

@@ -3,7 +3,7 @@
 -- Assumes nothing.
 use mathlib.Core.Path.{_≡_, refl, sym, ap, _∙_}
 use mathlib.Core.Logic.{⊎-elim}
-use mathlib.Core.Bool.{true}
+use mathlib.Core.Bool.{Bool}
 use mathlib.Core.List.{List, [], _∷_, _++_, map-append}
 use Prim.Native.Nat.{ℕ, _+_, _-_, _≤_, _<_, zero-le, max}
 use native.Mathlib.Nat.{le-max-left}
@@ -12,16 +12,16 @@ use lib.Dec.{eqb}
 use borrow.Author.Tests.{le-leb}
 use lib.ListN.{length}
 use lib.Seq.{take-at}
-use Rattle.order.specs.Cells.{tally, count, isCell, isOrder}
+use Rattle.order.specs.Cells.{tally, count, isCell}
 use Rattle.order.proofs.Cells.{tally-ne, tally-le, countIf-append, eq-cases}
 use Rattle.group.specs.declared.Group.{Group}
 use Rattle.group.specs.Levels.{level, put, AtMost}
 use Rattle.group.proofs.Levels.{put-same, at-most-length, sum, sum-put, rises-up}
 use Rattle.push_up.specs.declared.Push.{Push}
-use Rattle.push_up.specs.PushUp.{singles, floorOver, lift, raise, pushOf, rankPushes, pushes, pulsesIn}
+use Rattle.push_up.specs.PushUp.{floorOver, lift, raise, pushOf, rankPushes, pushes, pulsesIn}
 use Rattle.push_up.specs.WriteAnswer.{raised, pushed}
-use Rattle.push_up.proofs.Minimal.{Off, OffAll, Fresh, Apart, lift-above, lift-other, raise-above, raise-other}
-use Rattle.push_up.proofs.Orders.{order-apart}
+use Rattle.push_up.proofs.Minimal.{Off, OffAll, Fresh, Apart, apart-wider, lift-above, lift-other, raise-above, raise-other}
+use Rattle.push_up.proofs.Orders.{TargetOf}
 use Rattle.push_up.proofs.Pushes.{push-cases}
 use Rattle.push_up.specs.PushProgram.{counted, played, Starts, cellsPushed, IsPushProgram}
 
@@ -150,15 +150,16 @@ no-pushes ls = is-push-program 1 [] ls tt
 
 -- ---- the pushes that the answer to a write carries
 
-pub counted-pushes : (g : Group) (xs : List ℕ) → let p = pushed g xs in counted (p .count) (p .pushes) ≡ pushes 1 (singles xs) (g .levels)
-unfolding pushed
-counted-pushes g xs = take-at (pushes 1 (singles xs) (g .levels)) _ (length (pushes 1 (singles xs) (g .levels))) refl
+module _ (w : Bool) (g : Group) (t : List (List ℕ)) where
+  pub counted-pushes : let p = pushed w g t in counted (p .count) (p .pushes) ≡ pushes 1 t (g .levels)
+  unfolding pushed
+  counted-pushes = take-at (pushes 1 t (g .levels)) _ (length (pushes 1 t (g .levels))) refl
 
-pub counted-pulses : (g : Group) (xs : List ℕ) → let p = pushed g xs in p .pulses ≡ pulsesIn (counted (p .count) (p .pushes))
-unfolding pushed
-counted-pulses g xs = ap pulsesIn (sym (counted-pushes g xs))
+  pub counted-pulses : let p = pushed w g t in p .pulses ≡ pulsesIn (counted (p .count) (p .pushes))
+  unfolding pushed
+  counted-pulses = ap pulsesIn (sym counted-pushes)
 
-pub counted-program : (g : Group) (xs : List ℕ) → isOrder (g .n) xs ≡ true → g .n ≤ length (g .levels)
-    → let p = pushed g xs in IsPushProgram (counted (p .count) (p .pushes)) (g .levels) (p .group .levels)
-unfolding pushed raised
-counted-program g xs t l = rw (counted-pushes g xs) (is-push-program 1 (singles xs) (g .levels) (order-apart (g .n) xs (g .levels) t l))
+  pub counted-program : TargetOf (g .n) t → g .n ≤ length (g .levels)
+      → let p = pushed w g t in IsPushProgram (counted (p .count) (p .pushes)) (g .levels) (p .group .levels)
+  unfolding pushed raised
+  counted-program a l = rw counted-pushes (is-push-program 1 t (g .levels) (apart-wider t l (a .apart)))

@@ -1,7 +1,7 @@
 -- How many pushes a program has, and their pulses.
 -- Assumes nothing.
 use Prim.Native.Nat.{ℕ, _+_, _-_, _<_, _≤_, max}
-use mathlib.Core.Path.{_≡_}
+use mathlib.Core.Path.{_≡_, refl}
 use mathlib.Core.Logic.{⊎-elim}
 use mathlib.Core.List.{List, [], _∷_, _++_}
 use native.Mathlib.Nat.{le-refl, max-zero}
@@ -44,12 +44,37 @@ pulses-append (p ∷ ps) qs = omega (arith, pulses-append ps qs)
 pub pulses-more : (ps : List Push) (c old new : ℕ) → pulsesIn (ps ++ pushOf c old new) ≡ pulsesIn ps + (new - old)
 pulses-more ps c old new = omega (arith, pulses-append ps (pushOf c old new), push-pulses c old new)
 
--- a push program has at most n - 1 pushes: the lowest cell is never pushed
-pub few-pushes : (gap : ℕ) (old cs : List ℕ) → length (pushes gap (singles cs) old) ≤ length cs - 1
-unfolding singles pushes rankPushes floorOver raise
+-- ---- how many
+
+-- the cells above the lowest rank
+abbrev pub cellsAbove : List (List ℕ) → ℕ
+cellsAbove [] = 0
+cellsAbove (r ∷ []) = 0
+cellsAbove (r ∷ s ∷ rs) = length r + cellsAbove (s ∷ rs)
+
+rank-few : (old : List ℕ) (f : ℕ) (r : List ℕ) → length (rankPushes old f r) ≤ length r
+unfolding rankPushes
+rank-few old f [] = omega arith
+rank-few old f (c ∷ cs) =
+    let new = max (level old c) f in
+    omega (arith, length-append (rankPushes old f cs) (pushOf c (level old c) new), push-few c (level old c) new, rank-few old f cs)
+
+rank-none : (old r : List ℕ) → rankPushes old 0 r ≡ []
+unfolding rankPushes
+rank-none old [] = refl
+rank-none old (c ∷ cs) = rw (rank-none old cs, max-zero, push-none c (level old c))
+
+-- no cell of the lowest rank is pushed
+pub few-pushes : (gap : ℕ) (old : List ℕ) (rs : List (List ℕ)) → length (pushes gap rs old) ≤ cellsAbove rs
+unfolding pushes floorOver raise
 few-pushes gap old [] = omega arith
-few-pushes gap old (c ∷ []) = rw (max-zero, push-none c (level old c)) (omega arith)
-few-pushes gap old (c ∷ d ∷ ds) =
-    let rs = singles (d ∷ ds) in
-    let new = max (level old c) (floorOver gap rs (raise gap rs old)) in
-    omega (arith, length-append (pushes gap rs old) (pushOf c (level old c) new), push-few c (level old c) new, few-pushes gap old (d ∷ ds))
+few-pushes gap old (r ∷ []) = rw (rank-none old r) (omega arith)
+few-pushes gap old (r ∷ s ∷ rs) =
+    let f = floorOver gap (s ∷ rs) (raise gap (s ∷ rs) old) in
+    omega (arith, length-append (pushes gap (s ∷ rs) old) (rankPushes old f r), rank-few old f r, few-pushes gap old (s ∷ rs))
+
+pub singles-above : (cs : List ℕ) → cellsAbove (singles cs) ≡ length cs - 1
+unfolding singles
+singles-above [] = refl
+singles-above (c ∷ []) = refl
+singles-above (c ∷ d ∷ ds) = omega (arith, singles-above (d ∷ ds))

@@ -73,5 +73,5 @@ module _ (n : ℕ) (xs : List ℕ) (p : isOrder n xs ≡ true) (h : ℕ) where
   stairs-low l = at-most-full n 4095 _ (replicate (12 - n) 0) (λ k m. omega arith)
 
   pub stairs-fit : (g : Group) → g .caps ≡ replicate n 4095 ++ replicate (12 - n) 0 → AtMost (g .levels) (stairs h n xs) → n ≤ suc h → h < 4095
-      → numberOf (pushChecks g xs) ≡ 0
-  stairs-fit g full low high l = push-holds g xs (fits-where g xs (stairs h n xs) low (stairs-show high) (rw full (stairs-low l)))
+      → numberOf (pushChecks g (singles xs)) ≡ 0
+  stairs-fit g full low high l = push-holds g (singles xs) (fits-where g (singles xs) (stairs h n xs) low (stairs-show high) (rw full (stairs-low l)))

@@ -1,3 +1,4 @@
 pub mod PushUp
 pub mod WriteAnswer
 pub mod PushProgram
+pub mod Steps

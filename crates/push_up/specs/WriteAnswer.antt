@@ -4,15 +4,15 @@
 --   toldWritten a       what the answer says: its number, and what it carries
 --   noPush              what stands in a place after the pushes: zeros
 --   pushArray ps        eleven places: the pushes, and zeros after them
---   raised g xs         the levels of the minimal push-up to an order
---   fits g xs           no new level, raised or kept, is above its cell's cap
---   pushed g xs         what an accepted write of an order carries: its pulses are those of its push program
+--   raised g t          the levels of the minimal push-up to a target
+--   fits g t            no new level, raised or kept, is above its cell's cap
+--   pushed w g t        what an accepted write of a target carries that leaves the mark w: its pulses are those of its push program
 --   unpushed g          what a refused write carries: the record given, no pulses, no pushes
---   pushChecks g xs     the last check of a call that raises cells to show an order: 8
+--   pushChecks g t      the last check of a call that raises cells to show a target: 8
 --   writeChecks g o     the checks of a write: 1, 2, 4, 8
---   writeOf g o         the answer to `write`
+--   writeOf g o         the answer to `write`: its target is an order, and the group is then written
 use Prim.Native.Nat.{ℕ, _-_}
-use mathlib.Core.Bool.{Bool}
+use mathlib.Core.Bool.{Bool, true}
 use mathlib.Core.List.{List, [], _∷_, _++_}
 use lib.ListN.{length, replicate}
 use Rattle.order.specs.declared.Order.{Order}
@@ -48,17 +48,17 @@ noPush = record { cell = record { 0 = 0 }; start = 0; reach = 0 }
 abbrev pub pushArray : List Push → List Push
 pushArray ps = ps ++ replicate (11 - length ps) noPush
 
-unfoldable pub raised : Group → List ℕ → List ℕ
-raised g xs = raise 1 (singles xs) (g .levels)
+unfoldable pub raised : Group → List (List ℕ) → List ℕ
+raised g t = raise 1 t (g .levels)
 
-unfoldable pub fits : Group → List ℕ → Bool
-fits g xs = atMost (raised g xs) (g .caps)
+unfoldable pub fits : Group → List (List ℕ) → Bool
+fits g t = atMost (raised g t) (g .caps)
 
-unfoldable pub pushed : Group → List ℕ → Program
-pushed g xs =
-    let program : List Push = pushes 1 (singles xs) (g .levels) in
+unfoldable pub pushed : Bool → Group → List (List ℕ) → Program
+pushed w g t =
+    let program : List Push = pushes 1 t (g .levels) in
     record {
-      group = programmed g (raised g xs);
+      group = programmed w g (raised g t);
       pulses = pulsesIn program;
       count = length program;
       pushes = pushArray program;
@@ -67,11 +67,11 @@ pushed g xs =
 abbrev pub unpushed : Group → Program
 unpushed g = record { group = g; pulses = 0; count = 0; pushes = pushArray [] }
 
-abbrev pub pushChecks : Group → List ℕ → List (Bool × Refusal)
-pushChecks g xs = (fits g xs, Worn) ∷ []
+abbrev pub pushChecks : Group → List (List ℕ) → List (Bool × Refusal)
+pushChecks g t = (fits g t, Worn) ∷ []
 
 abbrev pub writeChecks : Group → Order → List (Bool × Refusal)
-writeChecks g o = groupChecks g ++ (isOrderOf (g .n) o, NoOrder) ∷ pushChecks g (listed o)
+writeChecks g o = groupChecks g ++ (isOrderOf (g .n) o, NoOrder) ∷ pushChecks g (singles (listed o))
 
 unfoldable pub writeOf : Group → Order → Told Program
-writeOf g o = answer (writeChecks g o) (pushed g (listed o)) (unpushed g)
+writeOf g o = answer (writeChecks g o) (pushed true g (singles (listed o))) (unpushed g)

@@ -28,6 +28,15 @@ pub struct Written {
     pub pushes: [Push; 11],
 }
 
+// A minimal push-up, cell by cell from the lowest rank. A cell of the next rank would be raised to the floor, if it is below.
+pub struct PushUp {
+    pub levels: [u16; 12],
+    pub floor: u16,
+    pub pulses: u32,
+    pub count: usize,
+    pub pushes: [Push; 11],
+}
+
 // The answer of a call that writes nothing: the record given, no pulses and no pushes.
 pub fn unwritten(outcome: Outcome, g: Group) -> Written
     ensures { λ r. ⌜ toldWritten r ≡ record { number = outcomeNumber outcome; value = unpushed g } ⌝ }

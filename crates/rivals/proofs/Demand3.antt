@@ -17,7 +17,6 @@ use Rattle.order.proofs.Refusals.{all-hold, check-holds, told-done}
 use Rattle.group.specs.declared.Group.{Group}
 use Rattle.group.specs.Levels.{AtMost, rises}
 use Rattle.group.specs.Record.{opened, noGroup, IsGroup}
-use Rattle.push_up.specs.PushUp.{singles}
 use Rattle.push_up.specs.WriteAnswer.{raised, fits, pushChecks, pushed}
 use Rattle.group.specs.Changes.{openOf}
 use Rattle.group.proofs.Levels.{at-most-refl, at-most-trans, sum, sum-mono, rises-up, rises-down, leaked-mono, leaked-loss}
@@ -40,21 +39,21 @@ pub record Beside (g : Group) (q : ℕ) (r : Rival) : Type 0 where
   pub cost : q + sum (r .levels) ≤ r .pulses + sum (g .levels)
 
 -- it stays so when both are raised
-beside-push : (g : Group) (q : ℕ) (r s : Rival) (t : List ℕ) → Raised t r s → Beside g q r
-    → Beside (pushed g t .group) (q + rises (g .levels) (pushed g t .group .levels)) s
+beside-push : (g : Group) (q : ℕ) (r s : Rival) (t : List (List ℕ)) → Raised t r s → Beside g q r
+    → Beside (pushed true g t .group) (q + rises (g .levels) (pushed true g t .group .levels)) s
 unfolding pushed raised
 beside-push g q r s t m b =
     let old-low = at-most-trans (b .low) (m .no-lower) in
-    let our-rises = rises-up (raise-above 1 (singles t) (g .levels)) in
+    let our-rises = rises-up (raise-above 1 t (g .levels)) in
     let their-rises = rises-up (m .no-lower) in
     record {
       caps = m .same-caps ∙ b .caps;
-      low = raise-least 1 (singles t) old-low (m .shows);
+      low = raise-least 1 t old-low (m .shows);
       cost = omega (arith, m .spent, b .cost);
     }
 
 -- a rival that can be raised has room for our raise
-room : (g : Group) (q : ℕ) (r s : Rival) (t : List ℕ) → Beside g q r → Raised t r s → numberOf (pushChecks g t) ≡ 0
+room : (g : Group) (q : ℕ) (r s : Rival) (t : List (List ℕ)) → Beside g q r → Raised t r s → numberOf (pushChecks g t) ≡ 0
 room g q r s t b m =
     push-holds g t (fits-where g t (s .levels) (at-most-trans (b .low) (m .no-lower)) (m .shows) (rw (m .same-caps ∙ b .caps) at (m .within)))
 
@@ -118,12 +117,12 @@ beside-course q h e (next {g} {p} {r} {s} {c} m k) b =
 
 -- a write, store or scrub that is not refused is open to us
 our-raise : (g : Group) (q : ℕ) (c : Call) → IsGroup g → writes (c .kind) ≡ true → numberOf (checks g c) ≡ 0
-    → Raised (target g c) (standing g q) (standing (pushed g (target g c) .group) (q + rises (g .levels) (pushed g (target g c) .group .levels)))
+    → Raised (target g c) (standing g q) (standing (pushed true g (target g c) .group) (q + rises (g .levels) (pushed true g (target g c) .group .levels)))
 unfolding pushed raised
 our-raise g q c h w e =
     let t = done-checks g c w e in
     record {
-      no-lower = raise-above 1 (singles (target g c)) (g .levels);
+      no-lower = raise-above 1 (target g c) (g .levels);
       shows = target-shows g c h w (t .0);
       within = t .1;
       same-caps = refl;

@@ -6,7 +6,7 @@
 use Prim.Native.Nat.{ℕ, suc, _+_, _<_}
 use mathlib.Core.Path.{_≡_, refl, sym, _∙_}
 use mathlib.Core.Bool.{false, cond, _&&_}
-use mathlib.Core.List.{List, [], _∷_}
+use mathlib.Core.List.{List, [], _∷_, flatten}
 use native.Mathlib.Omega.{arith}
 use lib.Dec.{lit<, lit≤, eqb, leb, ltb}
 use lib.ListN.{getD, replicate}
@@ -168,7 +168,7 @@ abbrev levelled : (Group → Call → List ℕ) → Group → Call → Told Step
 levelled new g c = altered (λ h. withLevels h (new g c)) (λ k. rises (g .levels) (new g c))
 
 pub climber : Machine
-climber = otherwise (levelled (λ g c. toTheTop (target g c) (g .levels)))
+climber = otherwise (levelled (λ g c. toTheTop (flatten (target g c)) (g .levels)))
 
 abbrev second-call : Call
 second-call = record { kind = Write; target = orderRecord (1 ∷ 3 ∷ 2 ∷ []) }
@@ -177,9 +177,9 @@ abbrev second-course : Rival
 second-course = record { levels = 3 ∷ 1 ∷ 2 ∷ replicate 9 0; caps = start .caps; pulses = 6 }
 
 pub climber-refuted : ¬ (MeetsDemand3 climber)
-unfolding climber toTheTop latest after plainAfter entrant Moves Follows applyOf writeOf answer pushed rises numberOf isRow allAtMost orderRecord cellNumbers isOrderOf isListing isOrder eachOnce allZero fits raised raise lift singles floorOver top level put atMost Shows Reach
+unfolding climber flatten toTheTop latest after plainAfter entrant Moves Follows applyOf writeOf answer pushed rises numberOf isRow allAtMost orderRecord cellNumbers isOrderOf isListing isOrder eachOnce allZero fits raised raise lift singles floorOver top level put atMost Shows Reach
 climber-refuted =
-    let second : Raised (1 ∷ 3 ∷ 2 ∷ []) course second-course =
+    let second : Raised (singles (1 ∷ 3 ∷ 2 ∷ [])) course second-course =
     record {
       no-lower = at-most-true _ _ refl;
       shows = ((lit≤ tt, tt), ((lit≤ tt, tt), ((lit≤ tt, tt), tt)));
@@ -195,7 +195,7 @@ climber-refuted =
 -- one that pushes truly on the first write and later only copies the target: a group that is written is raised from levels 0. After the first
 -- write it shows [1, 3, 2] by 2, 0, 1: cell 2 has come down from 1
 pub copier : Machine
-copier = otherwise (λ g c t. cond (g .written) (levelled (λ g c. raise 1 (singles (target g c)) (replicate 12 0)) g c t) t)
+copier = otherwise (λ g c t. cond (g .written) (levelled (λ g c. raise 1 (target g c) (replicate 12 0)) g c t) t)
 
 -- the second step of a course of two calls
 second-step : {run : Machine} {g p : Group} {r s t : Rival} {c d : Call} → Course run g p r (c ∷ d ∷ []) (s ∷ t ∷ [])
@@ -276,8 +276,8 @@ hasty-refuted =
 pub lax : Machine
 lax g c =
     let t = applyOf g c in
-    let first = getD (target g c) 0 0 in
-    let new = raise 1 (singles (target g c)) (g .levels) in
+    let first = getD (flatten (target g c)) 0 0 in
+    let new = raise 1 (target g c) (g .levels) in
     cond (writes (c .kind) && eqb (t .number) 8 && leb (level new first) (level (g .caps) first)) (record { number = 0; value = accept g c }) t
 
 abbrev second-worn : Call
@@ -285,5 +285,5 @@ second-worn = record { kind = Wear (record { 0 = 2 }) 0; target = order }
 
 -- with cell 2 worn to 0 it takes the order [1, 2, 3], whose top cell has room
 pub lax-refuted : ¬ (MeetsDemand3 lax)
-unfolding lax after plain plainAfter wearOf applyOf writeOf answer pushed rises numberOf isRow allAtMost orderRecord cellNumbers isOrderOf isListing isOrder eachOnce allZero fits raised raise lift singles floorOver top level put atMost
+unfolding lax flatten after plain plainAfter wearOf applyOf writeOf answer pushed rises numberOf isRow allAtMost orderRecord cellNumbers isOrderOf isListing isOrder eachOnce allZero fits raised raise lift singles floorOver top level put atMost
 lax-refuted = fails lax (second-worn ∷ []) (λ d. let e : _≡_ {A = ℕ} 0 8 = d .answered call in omega arith)

@@ -84,7 +84,7 @@ module _ (g : Group) (b : Begun g) (cs : List Call) where
 
 -- ---- every order fits an opened group
 
-opened-passes : (n : ℕ) → isSize n ≡ true → (xs : List ℕ) → isOrder n xs ≡ true → numberOf (pushChecks (opened n) xs) ≡ 0
+opened-passes : (n : ℕ) → isSize n ≡ true → (xs : List ℕ) → isOrder n xs ≡ true → numberOf (pushChecks (opened n) (singles xs)) ≡ 0
 opened-passes n size xs t =
     let (low, high) = size-true n size in
     let h = n - 1 in
@@ -133,7 +133,7 @@ module _ (n : ℕ) (size : isSize n ≡ true) where
   some-order = let s = size-true n size in recorded-order n (orderFrom (λ i. 0) n) (order-of-any (λ i. 0) n) (s .0) (s .1)
 
   module _ (s : ℕ) (l : s < K n) where
-    word-passes : numberOf (pushChecks (opened n) (wordOf n s)) ≡ 0
+    word-passes : numberOf (pushChecks (opened n) (singles (wordOf n s))) ≡ 0
     unfolding wordOf
     word-passes = opened-passes n size (wordOf n s) (order-of-any (coordinateAt (wordAt n s)) n)
 

@@ -62,7 +62,7 @@ write-rise g u v w s d a =
 
 -- levels n down to 1 along u, and full caps
 unfoldable pub stairGroup : Order → Group
-stairGroup u = programmed (opened (u .len)) (stairs (u .len) (u .len) (listed u))
+stairGroup u = programmed true (opened (u .len)) (stairs (u .len) (u .len) (listed u))
 
 -- stairs to v from 2n are above those to u from n
 stairs-above : (n : ℕ) (u v : List ℕ) → isOrder n u ≡ true → isOrder n v ≡ true → AtMost (stairs n n u) (stairs (n + n) n v)

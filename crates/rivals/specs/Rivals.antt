@@ -38,7 +38,7 @@ use lib.ListN.{replicate}
 use Rattle.order.specs.Refusals.{numberOf, ifDone, Told}
 use Rattle.group.specs.declared.Group.{Group}
 use Rattle.group.specs.Levels.{put, AtMost, rises, leaked}
-use Rattle.push_up.specs.PushUp.{singles, Shows}
+use Rattle.push_up.specs.PushUp.{Shows}
 use Rattle.group.specs.Changes.{openOf}
 use Rattle.take_over.specs.TakeOver.{takeOverOf}
 use Rattle.plain_machine.specs.declared.Kind.{Kind}
@@ -61,14 +61,14 @@ lowered r ls = record { levels = ls; caps = r .caps; pulses = r .pulses }
 abbrev pub capped : Rival → List ℕ → Rival
 capped r cs = record { levels = r .levels; caps = cs; pulses = r .pulses }
 
-pub record Raised (t : List ℕ) (r s : Rival) : Type 0 where
+pub record Raised (t : List (List ℕ)) (r s : Rival) : Type 0 where
   pub no-lower : AtMost (r .levels) (s .levels)
-  pub shows : Shows 1 (singles t) (s .levels)
+  pub shows : Shows 1 t (s .levels)
   pub within : AtMost (s .levels) (s .caps)
   pub same-caps : s .caps ≡ r .caps
   pub spent : s .pulses ≡ r .pulses + rises (r .levels) (s .levels)
 
-unfoldable pub Follows : Kind → List ℕ → Rival → Rival → Type 0
+unfoldable pub Follows : Kind → List (List ℕ) → Rival → Rival → Type 0
 Follows Write t r s = Raised t r s
 Follows (WriteInto room) t r s = Raised t r s
 Follows (Store symbol) t r s = Raised t r s
@@ -78,7 +78,7 @@ Follows (Wear c cap) t r s = s ≡ capped r (put (r .caps) (c .0) cap)
 Follows Erase t r s = s ≡ lowered r (replicate 12 0)
 Follows Read t r s = s ≡ r
 
-unfoldable pub Moves : ℕ → Kind → List ℕ → Rival → Rival → Type 0
+unfoldable pub Moves : ℕ → Kind → List (List ℕ) → Rival → Rival → Type 0
 Moves zero k t r s = Follows k t r s
 Moves (suc number) k t r s = s ≡ r
 
@@ -130,7 +130,7 @@ module _ (run : Machine) where
       let more = q + rises (g .levels) (h .levels) in
       standing h more ∷ own h more cs
 
-  unfoldable pub Raisable : Group → List Call → List ℕ → Type 0
+  unfoldable pub Raisable : Group → List Call → List (List ℕ) → Type 0
   Raisable g cs t = (ss : List Rival) × IsRival g cs ss × (s : Rival) × Raised t (latest (entrant g) ss) s
 
   pub record Demand3 (g : Group) (cs : List Call) : Type 0 where

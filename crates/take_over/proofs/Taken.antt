@@ -40,7 +40,7 @@ module _ (g : Group) (h : IsGroup g) (ls : List ℕ) (r : isRow 4095 (g .n) ls �
       sized-holds (g .n) _ Measurement (rules .small) (rules .large)
       (rw (row-measured (g .n) ls (rules .large) w r, row-measured (g .n) (g .caps) (rules .large) (h .caps) (rules .caps)))
 
-  pub taken-with : takeOverOf (g .n) (take (g .n) ls) (take (g .n) (g .caps)) ≡ record { number = 0; value = programmed g ls }
+  pub taken-with : takeOverOf (g .n) (take (g .n) ls) (take (g .n) (g .caps)) ≡ record { number = 0; value = programmed true g ls }
   unfolding takeOverOf
   taken-with =
       let rules = rules-held g (h .passes) in
@@ -48,5 +48,5 @@ module _ (g : Group) (h : IsGroup g) (ls : List ℕ) (r : isRow 4095 (g .n) ls �
       ∙ rw (row-back (g .n) ls (rules .large) w r, row-back (g .n) (g .caps) (rules .large) (h .caps) (rules .caps))
 
 pub taken-as-it-stands : (g : Group) → IsGroup g
-    → takeOverOf (g .n) (take (g .n) (g .levels)) (take (g .n) (g .caps)) ≡ record { number = 0; value = programmed g (g .levels) }
+    → takeOverOf (g .n) (take (g .n) (g .levels)) (take (g .n) (g .caps)) ≡ record { number = 0; value = programmed true g (g .levels) }
 taken-as-it-stands g h = taken-with g h (g .levels) (rules-held g (h .passes) .levels) (h .levels)

@@ -6,7 +6,7 @@
 --   takenOver n ls cs       the record of n cells with these levels and these caps, written
 --   takeOverOf n ls cs      the answer to `take_over`; a refused one returns the all-zero record
 use Prim.Native.Nat.{ℕ, _-_}
-use mathlib.Core.Bool.{Bool, _&&_}
+use mathlib.Core.Bool.{Bool, true, _&&_}
 use mathlib.Core.List.{List, [], _∷_, _++_}
 use lib.Dec.{eqb}
 use lib.ListN.{length, replicate}
@@ -26,7 +26,7 @@ abbrev pub takeOverChecks : ℕ → List ℕ → List ℕ → List (Bool × Refu
 takeOverChecks n ls cs = (isSize n, Size) ∷ (isMeasured n ls && isMeasured n cs, Measurement) ∷ []
 
 abbrev pub takenOver : ℕ → List ℕ → List ℕ → Group
-takenOver n ls cs = programmed (fresh n (inPlaces cs)) (inPlaces ls)
+takenOver n ls cs = programmed true (fresh n (inPlaces cs)) (inPlaces ls)
 
 unfoldable pub takeOverOf : ℕ → List ℕ → List ℕ → Told Group
 takeOverOf n ls cs = answer (takeOverChecks n ls cs) (takenOver n ls cs) noGroup

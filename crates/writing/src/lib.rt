@@ -4,7 +4,7 @@ use group::Group;
 use order::Order;
 use order::Outcome;
 use order::Refusal;
-use push_up::Push;
+use push_up::PushUp;
 use push_up::Written;
 ghost use mathlib.Core.Path.{_≡_};
 ghost use mathlib.Core.Bool.{true};
@@ -13,16 +13,8 @@ ghost use Rattle.order.specs.Cells.{isOrder};
 ghost use Rattle.order.specs.Order.{listed};
 ghost use Rattle.group.specs.Record.{allAtMost};
 ghost use Rattle.push_up.specs.WriteAnswer.{toldWritten, writeOf};
-ghost use Rattle.writing.specs.Steps.{pushUpTo};
-
-// A minimal push-up. The next cell up would be raised to the floor, if it is below.
-struct PushUp {
-    levels: [u16; 12],
-    floor: u16,
-    pulses: u32,
-    count: usize,
-    pushes: [Push; 11],
-}
+ghost use Rattle.push_up.specs.PushUp.{singles};
+ghost use Rattle.push_up.specs.Steps.{pushUpTo};
 
 // Minimal push-up to an order.
 pub fn write(g: Group, target: Order) -> Written
@@ -62,7 +54,7 @@ pub fn write(g: Group, target: Order) -> Written
 // more than that.
 fn raise_all(o: Order, old: [u16; 12]) -> PushUp
     requires { ⌜ (isOrder (o .len) (listed o) ≡ true) × (o .len ≤ 12) × (allAtMost 4095 old ≡ true) ⌝ }
-    ensures { λ r. ⌜ r ≡ pushUpTo 1 (listed o) old ⌝ }
+    ensures { λ r. ⌜ r ≡ pushUpTo 1 (singles (listed o)) old ⌝ }
 {
     let mut levels = old;
     let mut floor: u16 = 0;
