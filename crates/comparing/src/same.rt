@@ -42,6 +42,7 @@ pub fn refusal(r: Refusal) -> u8 {
         Refusal::RoomShort => 15,
         Refusal::NoPage => 16,
         Refusal::Measurement => 17,
+        Refusal::RankSizes => 18,
     }
 }
 

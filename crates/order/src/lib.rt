@@ -74,6 +74,7 @@ pub enum Refusal {
     RoomShort,
     NoPage,
     Measurement,
+    RankSizes,
 }
 
 pub enum Outcome {
@@ -126,6 +127,7 @@ pub fn refusal_number(refusal: Refusal) -> u8
         Refusal::RoomShort => 15,
         Refusal::NoPage => 16,
         Refusal::Measurement => 17,
+        Refusal::RankSizes => 18,
     }
 }
 
