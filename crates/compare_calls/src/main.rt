@@ -1,6 +1,6 @@
 // Runs the engine and the second implementation, `naive`, on the same groups, lists of calls and runs. Prints for each part how many
 // comparisons it made, how many differed, and how many of the naive answers had each number of the refusal table, so that no part is empty. At
-// each part stands how many these must be; where the inputs are sampled, the numbers of their answers are counted and not foretold.
+// each part stands how many these must be; where runs are sampled, the numbers of their answers are counted and not foretold.
 mod lent;
 mod machine;
 mod windows;
@@ -10,11 +10,11 @@ use comparing::report::Report;
 use comparing::report::part;
 
 enum Part {
-    // 1,000 sampled records and as many forged ones, 10 comparisons each: every number from 0 to 10.
+    // 1,000 sampled records and as many forged ones, 10 comparisons each: every number from 0 to 10, and 18.
     Records,
     // 2,500 pairs of sampled groups: 0, 1, 2, 6, 7.
     Alike,
-    // 40 lists of 250 calls, 2 comparisons each: every number from 0 to 10.
+    // 40 lists of 250 calls, 2 comparisons each: every number from 0 to 10, and 18.
     CallLists,
     // 200 sampled records and as many forged ones, lists of 0 to 12 places, 2 comparisons each: 0, 1, 2, 4, 8, 10.
     LentLists,

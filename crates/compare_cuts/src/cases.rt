@@ -31,13 +31,13 @@ fn small(k: usize) -> Group {
     }
 }
 
-// Every small group, and each of the six orders written to it.
-pub fn every_small() -> Tally {
+// Every small group, and each of the six orders written to it in this way, in a shared write with ranks that end there (`sample::ranked`).
+pub fn every_small(kind: Kind, ends: usize) -> Tally {
     let mut t = none();
     for k in 0..20736 {
         let call = Call {
-            kind: Kind::Write,
-            target: sample::order_at(3, k % 6),
+            kind,
+            target: sample::ranked(sample::order_at(3, k % 6), 3, ends),
         };
         t = compared(t, small(k / 6), call, call, k);
     }
@@ -47,7 +47,8 @@ pub fn every_small() -> Tally {
 // After a cut the word that the scrub found is written: what is half written may read as another one.
 fn scrubbed(t: Tally, g: Group, s: usize) -> Tally {
     let found = naive_calls::machine::reading(g);
-    let target = found.word;
+    let word = found.word;
+    let target = sharing::plain_target(word);
     let call = Call {
         kind: Kind::Scrub,
         target,
@@ -76,10 +77,25 @@ pub fn sampled() -> Tally {
             };
             let call = Call {
                 kind,
-                target: sample::target(n, s),
+                target: sharing::plain_target(sample::target(n, s)),
             };
             t = compared(t, g, call, call, s);
         }
+    }
+    t
+}
+
+// 100 sampled groups of each size, with a shared write to each.
+pub fn shared() -> Tally {
+    let mut t = none();
+    for k in 0..1000 {
+        let s = 1000 * k;
+        let n = 3 + k / 100;
+        let call = Call {
+            kind: Kind::WriteShared,
+            target: sample::shared(n, s),
+        };
+        t = compared(t, sample::group(n, s), call, call, s);
     }
     t
 }

@@ -7,6 +7,7 @@ mod take_overs;
 
 use comparing::report;
 use comparing::report::part;
+use plain_machine::Kind;
 
 fn main() {
     let mut r = report::empty();
@@ -20,10 +21,43 @@ fn main() {
         r,
         b"every cut of every small write, n = ",
         3,
-        cases::every_small(),
+        cases::every_small(Kind::Write, 0),
+    );
+    // The same as shared writes (document 02, request (g)) with each list of sizes: 8,748, 5,064, 4,584 and 2,664 are accepted, with 8,748, 13,632, 14,808 and
+    // 11,160 cuts.
+    r = part(
+        r,
+        b"every cut of every small shared write, sizes ",
+        3,
+        cases::every_small(Kind::WriteShared, 0),
+    );
+    r = part(
+        r,
+        b"every cut of every small shared write, sizes ",
+        12,
+        cases::every_small(Kind::WriteShared, 1),
+    );
+    r = part(
+        r,
+        b"every cut of every small shared write, sizes ",
+        21,
+        cases::every_small(Kind::WriteShared, 2),
+    );
+    r = part(
+        r,
+        b"every cut of every small shared write, sizes ",
+        111,
+        cases::every_small(Kind::WriteShared, 3),
     );
     // 3,200 calls, of which 119 are refused 4, 32 refused 5, 105 refused 6, 291 refused 7 and 353 refused 8; the others have 105,813 cuts that are tried, 8
     // comparisons at each, all done.
     r = part(r, b"cuts of sampled calls, n = 3 to ", 12, cases::sampled());
+    // 1,000 shared writes, of which 50 are refused 4, 108 refused 8 and 108 refused 18; the others have 28,940 cuts that are tried.
+    r = part(
+        r,
+        b"cuts of sampled shared writes, n = 3 to ",
+        12,
+        cases::shared(),
+    );
     report::total(r);
 }

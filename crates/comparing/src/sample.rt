@@ -2,8 +2,10 @@
 use group::Group;
 use naive::levels::index;
 use naive::numbers::add;
+use naive::numbers::at;
 use naive::numbers::at16;
 use naive::numbers::byte;
+use naive::numbers::put;
 use naive::orders::cells_of;
 use naive::orders::placed;
 use naive::orders::with_cells;
@@ -11,6 +13,7 @@ use order::Cell;
 use order::Order;
 use plain_machine::Call;
 use plain_machine::Kind;
+use sharing::Ranked;
 
 // The number of orders of n cells.
 const ORDERS: [usize; 13] = [
@@ -231,6 +234,71 @@ pub fn target(n: usize, s: usize) -> Order {
     o
 }
 
+// A target of n cells with ranks: one ends after place i + 1 where bit i of a number is set, and the last one after place n.
+pub fn ranked(cells: Order, n: usize, ends: usize) -> Ranked {
+    let mut r = sharing::plain_target(cells);
+    let mut bits = ends;
+    for i in 0..12 {
+        if i < n {
+            let k = r.count;
+            if k < 12 {
+                r.sizes[k] = std::num::wrapping_add_u8(r.sizes[k], 1);
+            }
+            if bits % 2 == 1 || i + 1 == n {
+                r.count = add(k, 1);
+            }
+            bits = bits / 2;
+        }
+    }
+    r
+}
+
+// The target with other rank sizes, mostly no sizes of its cells. At a rank of it, or at the place past the last: one more, which past the last is a
+// place that is not 0; one less, which there is 255; or 0. Another count; one that no list has; no ranks; or two ranks more, of which a byte that adds the
+// sizes sees nothing.
+fn missized(r: Ranked, s: usize) -> Ranked {
+    let mut t = r;
+    let sizes = r.sizes;
+    let way = below(8, s, 100);
+    if way == 4 {
+        t.count = below(13, s, 102);
+        return t;
+    }
+    if way == 5 {
+        t.count = size(below(20, s, 103));
+        return t;
+    }
+    if way == 6 {
+        let cells = r.cells;
+        return sharing::plain_target(cells);
+    }
+    if way == 7 {
+        let more = put(put(sizes, r.count, 255), add(r.count, 1), 1);
+        t.sizes = more;
+        t.count = add(r.count, 2);
+        return t;
+    }
+    let place = below(add(r.count, 1), s, 101);
+    let mut held: u8 = 0;
+    if way < 2 {
+        held = std::num::wrapping_add_u8(at(sizes, place), 1);
+    } else if way == 2 {
+        held = std::num::wrapping_sub_u8(at(sizes, place), 1);
+    }
+    let other = put(sizes, place, held);
+    t.sizes = other;
+    t
+}
+
+// A target with ranks to write to n cells: the order is damaged in one of 16, and the sizes in one of 8.
+pub fn shared(n: usize, s: usize) -> Ranked {
+    let r = ranked(target(n, s), n, below(4096, s, 96));
+    if below(8, s, 97) == 0 {
+        return missized(r, s);
+    }
+    r
+}
+
 // A cell of a group, or the number below or above, or 255.
 pub fn cell(g: Group, s: usize) -> Cell {
     if below(16, s, 94) == 0 {
@@ -243,11 +311,18 @@ pub fn cell(g: Group, s: usize) -> Cell {
 pub fn call(g: Group, s: usize) -> Call {
     Call {
         kind: kind(g, s),
-        target: target(g.n, s),
+        target: shared(g.n, s),
     }
 }
 
 fn kind(g: Group, s: usize) -> Kind {
+    let shares = below(32, s, 98);
+    if shares == 0 {
+        return Kind::WriteSharedInto(below(13, s, 95));
+    }
+    if shares < 3 {
+        return Kind::WriteShared;
+    }
     let which = below(9, s, 81);
     if which == 0 {
         return Kind::Write;

@@ -4,6 +4,7 @@ use mathlib.Core.Path.{_≡_, refl}
 use mathlib.Core.Bool.{true, false}
 use mathlib.Core.List.{[], _∷_}
 use mathlib.Core.Option.{none, some}
+use lib.ListN.{replicate}
 use Rattle.order.specs.Refusals as refusals
 use Rattle.order.specs.Cells.{eachOnce, isOrder, allZero, isListing}
 use Rattle.order.specs.Order.{cellNumbers, isOrderOf}
@@ -12,7 +13,7 @@ use Rattle.decoder.specs.Decoding.{leaves, isCodeword, firstBelow, correction}
 use Rattle.code.specs.declared.Verdict.the-variants.{Clean, PutRight}
 use Rattle.code.specs.Words.{joined, select, same, indexOf, vectorsFrom, vectors, words, K, wordAt, wordNumber, symbolOf}
 use Rattle.code.specs.Symbols.{wordOf, readingAt}
-use Rattle.group.specs.Levels.{level, put, atMost}
+use Rattle.group.specs.Levels.{level, put, atMost, sum}
 use Rattle.group.specs.Record.{allAtMost, isRow, noGroup}
 use Rattle.push_up.specs.PushUp.{singles, top, floorOver, lift, raise, pushOf, rankPushes, pushes, pulsesIn}
 use Rattle.push_up.specs.PushProgram.{played}
@@ -21,7 +22,8 @@ use Rattle.take_over.specs.TakeOver.{isMeasured, takeOverOf}
 use Rattle.sensing.specs.Sense.{standsAbove, insert, sorted, sensed}
 use Rattle.engine.specs.ReadStore.{readOf, storeOf}
 use Rattle.engine.specs.Scrub.{scrubOf}
-use Rattle.plain_machine.specs.declared.Kind.the-variants.{Write, Store, Scrub}
+use Rattle.plain_machine.specs.declared.Kind.the-variants.{Write, WriteShared, Store, Scrub}
+use Rattle.sharing.specs.Shared.{eachFilled, isSizes, byNumber, ranksOf, writeSharedOf, plainTarget}
 use Rattle.plain_machine.specs.declared.Call.{Call}
 use Rattle.plain_machine.specs.Machine.{applyOf}
 use Rattle.rivals.specs.Starred.{order, capped, group, push, step, done, refused}
@@ -30,7 +32,7 @@ use Rattle.cuts.specs.Cuts.{Cut, levelsAt, pulsesAt, programOf, takenAt}
 -- ---- document 01's case 1: levels (3,4,2,1), write [2,1,4,3] for 4 pulses, cut where cell 4 stands at 2, and the repair where cell 1 has reached 4
 
 abbrev write : Call
-write = record { kind = Write; target = order (2 ∷ 1 ∷ 4 ∷ 3 ∷ []) }
+write = record { kind = Write; target = plainTarget (order (2 ∷ 1 ∷ 4 ∷ 3 ∷ [])) }
 
 abbrev first : Cut
 first = record { done = 0; level = 2 }
@@ -49,14 +51,32 @@ pub case-1-cut :
 unfolding refusals.answer refusals.numberOf isRow allAtMost isMeasured takeOverOf takenAt levelsAt pulsesAt played cellNumbers isOrderOf isListing isOrder eachOnce allZero level put atMost singles top floorOver lift raise pushOf rankPushes pushes pulsesIn raised fits pushed writeOf applyOf
 case-1-cut = (refl, refl, refl, refl, refl, refl, refl)
 
+-- ---- SD 001's example 1, cut where cell 6 stands at 2: cells 5, 1 and 3 have reached their levels, and the same shared write raises cell 6 by the 2 pulses left. The
+-- group taken over is marked as written; after the repair it is blank, as after the uncut call
+
+abbrev shared : Call
+shared = record { kind = WriteShared; target = record { count = 3; sizes = 3 ∷ 2 ∷ 1 ∷ replicate 9 0; cells = order (6 ∷ 1 ∷ 3 ∷ 2 ∷ 5 ∷ 4 ∷ []) } }
+
+abbrev third : Cut
+third = record { done = 3; level = 2 }
+
+pub case-shared-cut :
+    (applyOf (group true (3 ∷ 3 ∷ 3 ∷ 2 ∷ 2 ∷ 1 ∷ [])) shared
+    ≡ done (step (group false (4 ∷ 3 ∷ 4 ∷ 2 ∷ 3 ∷ 4 ∷ [])) 0 none 6 (push 5 2 3 ∷ push 1 3 4 ∷ push 3 3 4 ∷ push 6 1 4 ∷ [])))
+    × (pulsesAt (programOf applyOf (group true (3 ∷ 3 ∷ 3 ∷ 2 ∷ 2 ∷ 1 ∷ [])) shared) third ≡ 4)
+    × (takenAt applyOf (group true (3 ∷ 3 ∷ 3 ∷ 2 ∷ 2 ∷ 1 ∷ [])) shared third ≡ done (group true (4 ∷ 3 ∷ 4 ∷ 2 ∷ 3 ∷ 2 ∷ [])))
+    × (applyOf (group true (4 ∷ 3 ∷ 4 ∷ 2 ∷ 3 ∷ 2 ∷ [])) shared ≡ done (step (group false (4 ∷ 3 ∷ 4 ∷ 2 ∷ 3 ∷ 4 ∷ [])) 0 none 2 (push 6 2 4 ∷ [])))
+unfolding refusals.answer refusals.numberOf isRow allAtMost isMeasured takeOverOf takenAt levelsAt pulsesAt played cellNumbers isOrderOf isListing isOrder eachOnce allZero level put atMost sum eachFilled isSizes byNumber ranksOf top floorOver lift raise pushOf rankPushes pushes pulsesIn raised fits pushed writeSharedOf applyOf
+case-shared-cut = (refl, refl, refl, refl)
+
 -- ---- a scrub is no repair. A store of 0, cut before its first push, leaves a group that reads as 1, clean, and a scrub makes it so. A scrub that is to write
 -- [4, 3, 2, 1], cut after its first push, leaves one that reads as [2, 4, 1, 3], put right, and the same scrub writes that
 
 abbrev store : Call
-store = record { kind = Store 0; target = order [] }
+store = record { kind = Store 0; target = plainTarget (order []) }
 
 abbrev scrub : Call
-scrub = record { kind = Scrub; target = order [] }
+scrub = record { kind = Scrub; target = plainTarget (order []) }
 
 pub scrub-misled :
     (takenAt applyOf (group false (0 ∷ 0 ∷ 0 ∷ [])) store (record { done = 0; level = 0 }) ≡ done (group true (0 ∷ 0 ∷ 0 ∷ [])))

@@ -8,8 +8,8 @@ use native.Mathlib.Nat.{le-refl}
 use native.Mathlib.Omega.{arith}
 use lib.ListN.{length, take, drop}
 use lib.Seq.{take-length, drop-length}
-use Rattle.group.specs.Levels.{level, put, AtMost}
-use Rattle.group.proofs.Levels.{level-put, put-same, at-most-refl, at-most-trans, at-most-length, put-below, put-above, sum, sum-put}
+use Rattle.group.specs.Levels.{level, put, AtMost, sum}
+use Rattle.group.proofs.Levels.{level-put, put-same, at-most-refl, at-most-trans, at-most-length, put-below, put-above, sum-put}
 use Rattle.push_up.specs.declared.Push.{Push}
 use Rattle.push_up.specs.PushUp.{raise, pushes, pulsesIn}
 use Rattle.push_up.specs.PushProgram.{played}

@@ -20,6 +20,7 @@ use Rattle.push_up.specs.PushProgram.{played}
 use Rattle.push_up.specs.WriteAnswer.{pushArray, raised, fits, pushed, writeOf}
 use Rattle.take_over.specs.TakeOver.{isMeasured, takeOverOf}
 use Rattle.plain_machine.specs.declared.Kind.the-variants.{Write}
+use Rattle.sharing.specs.Shared.{plainTarget}
 use Rattle.plain_machine.specs.declared.Call.{Call}
 use Rattle.plain_machine.specs.Machine.{writes, target, applyOf}
 use Rattle.rivals.specs.Rivals.{Machine}
@@ -52,7 +53,7 @@ climber g c =
 
 -- from levels 2, 1, 0 it shows [1, 3, 2] by 4, 1, 3. Cut where cell 3 stands at 2, above cell 2, it goes to 3, 1, 2
 abbrev call : Call
-call = record { kind = Write; target = order (1 ∷ 3 ∷ 2 ∷ []) }
+call = record { kind = Write; target = plainTarget (order (1 ∷ 3 ∷ 2 ∷ [])) }
 
 pub climber-refuted : ¬ (RepairsCuts climber)
 unfolding climber flatten toTheTop programTo applyOf writeOf pushed fits raised raise lift singles floorOver atMost lastAnswer takenAt takeOverOf levelsAt played isMeasured answer numberOf isRow allAtMost pushOf top level put cellNumbers isOrderOf isListing isOrder eachOnce allZero
@@ -64,7 +65,7 @@ climber-refuted =
 -- one that says worn before it reckons the new levels, where cell 1 stands at its cap (rivals/Refuted): with cell 1 capped at 2 it writes [1, 2, 3] by
 -- 2, 1, 0, and cut after its last push it says worn to the same write, which has nothing left to raise
 abbrev falling-call : Call
-falling-call = record { kind = Write; target = order (1 ∷ 2 ∷ 3 ∷ []) }
+falling-call = record { kind = Write; target = plainTarget (order (1 ∷ 2 ∷ 3 ∷ [])) }
 
 pub hasty-refuted : ¬ (RepairsCuts hasty)
 unfolding hasty lastAnswer takenAt takeOverOf levelsAt played isMeasured answer numberOf isRow allAtMost cellNumbers isOrderOf isListing isOrder eachOnce allZero applyOf writeOf pushed pushes rankPushes pushOf pulsesIn fits raised raise lift singles floorOver top level put atMost

@@ -1,5 +1,5 @@
--- Supply lost in the middle of a write, a store or a scrub, any number of times: each time the group is taken over, it ends as after the uncut call, and the
--- pulses add up.
+-- Supply lost in the middle of a write, a shared write, a store or a scrub, any number of times: each time the group is taken over, it ends as after the uncut call,
+-- and the pulses add up.
 -- Assumes nothing.
 use Prim.Native.Nat.{ℕ, _+_}
 use mathlib.Core.Path.{_≡_, refl, sym, ap, subst, _∙_}
@@ -23,7 +23,7 @@ use Rattle.push_up.proofs.Programs.{program-runs, counted-pushes}
 use Rattle.push_up.proofs.Writes.{push-holds, target-apart}
 use Rattle.take_over.proofs.Taken.{taken-with}
 use Rattle.plain_machine.specs.declared.Call.{Call}
-use Rattle.plain_machine.specs.Machine.{writes, target, earlierChecks, applyOf}
+use Rattle.plain_machine.specs.Machine.{writes, marks, target, earlierChecks, applyOf}
 use Rattle.plain_machine.proofs.Machine.{programPart, apply-number, apply-program, apply-pushed, done-checks, done-pushes, target-of}
 use Rattle.cuts.specs.Cuts.{Cut, IsCut, levelsAt, pulsesAt, programOf, takenAt, IsWriteOf, AreRetries, AllTaken, lastAnswer, pulsesBefore, RepairsCuts}
 use Rattle.cuts.proofs.Cuts.{first, last, first-cut, last-cut, cut-below, cut-raised, cut-pulses}
@@ -41,7 +41,7 @@ module _ (g : Group) (h : IsGroup g) (c : Call) (w : writes (c .kind) ≡ true) 
   apart = target-apart g ranks h (target-of g (c .target) (c .kind) w (passed .0))
 
   program : programOf applyOf g c ≡ pushes 1 ranks (g .levels)
-  program = ap (λ (p : Program). counted (p .count) (p .pushes)) (apply-pushed g c w e) ∙ counted-pushes true g ranks
+  program = ap (λ (p : Program). counted (p .count) (p .pushes)) (apply-pushed g c w e) ∙ counted-pushes (marks (c .kind)) g ranks
 
   -- the ends are cuts: nothing pushed yet, and all pushed
   pub call-first : let ps = programOf applyOf g c in IsCut ps (first ps) × (levelsAt ps (first ps) (g .levels) ≡ g .levels) × (pulsesAt ps (first ps) ≡ 0)
@@ -93,7 +93,7 @@ module _ (g : Group) (h : IsGroup g) (c : Call) (w : writes (c .kind) ≡ true) 
     has-room = push-holds takenGroup (target g c) (true-at-most (rw same-levels (passed .1)))
 
     -- the same target, written to it
-    module _ (d : Call) (a : IsWriteOf (g .n) (target g c) d) where
+    module _ (d : Call) (a : IsWriteOf (g .n) (target g c) (marks (c .kind)) d) where
       same-target : target takenGroup d ≡ target g c
       same-target = a .same takenGroup refl
 
@@ -103,13 +103,13 @@ module _ (g : Group) (h : IsGroup g) (c : Call) (w : writes (c .kind) ≡ true) 
           ∙ done-pushes takenGroup d (a .raises) (a .passes takenGroup refl taken-group)
           (subst (λ (t : List (List ℕ)). numberOf (pushChecks takenGroup t) ≡ 0) (sym same-target) has-room)
 
-      again-pushed : programPart (applyOf takenGroup d .value) ≡ pushed true takenGroup (target g c)
-      again-pushed = apply-pushed takenGroup d (a .raises) again-accepted ∙ ap (pushed true takenGroup) same-target
+      again-pushed : programPart (applyOf takenGroup d .value) ≡ pushed (marks (c .kind)) takenGroup (target g c)
+      again-pushed = apply-pushed takenGroup d (a .raises) again-accepted ∙ rw (a .mark, same-target)
 
       again-same : applyOf takenGroup d .value .group ≡ applyOf g c .value .group
       unfolding pushed
       again-same =
-          ap (λ (p : Program). p .group) again-pushed ∙ ap (λ (ls : List ℕ). programmed true g ls) same-levels
+          ap (λ (p : Program). p .group) again-pushed ∙ ap (λ (ls : List ℕ). programmed (marks (c .kind)) g ls) same-levels
           ∙ sym (ap (λ (p : Program). p .group) (apply-pushed g c w e))
 
       again-pulses : pulsesAt (programOf applyOf g c) cut + applyOf takenGroup d .value .pulses ≡ applyOf g c .value .pulses

@@ -13,20 +13,20 @@
 --   pushesAt ps cut        the pushes up to the cut: those before it, which are complete, and the half push. Later ones are not begun
 --   levelsAt ps cut ls     the levels at the cut, of a program that began at the levels ls
 --   pulsesAt ps cut        the pulses before the cut: a half push counts its rise so far
---   IsWriteOf n t c        the call c is a write, or a store, of the target t to any group of n cells: it passes the earlier checks there, so that nothing
---                          but worn can refuse it. A scrub is none: its target is what it reads
+--   IsWriteOf n t w c      the call c is a write, a shared write or a store of the target t to any group of n cells, and leaves the mark w: it passes the
+--                          earlier checks there, so that nothing but worn can refuse it. A scrub is none: its target is what it reads
 --   Retry                  supply is lost at a cut, and then this call is made on the group that is taken over
 --   programOf g c          the push program that the answer to a call carries
 --   takenAt g c cut        the take-over after a cut of this call: of the levels at the cut, and the caps that the group had
---   AreRetries g c rs      each cuts the program of the call before it, and its own call is a write of the same target
+--   AreRetries g c rs      each cuts the program of the call before it, and its own call is a write of the same target that leaves the same mark
 --   AllTaken g c rs        each take-over is accepted
 --   lastAnswer g c rs      the answer to the last call, which is not cut
 --   pulsesBefore g c rs    the pulses before each of the cuts, added up
 --   Repaired g c rs        the call c, cut, and these retries: all ends as if c had not been cut
---   RepairsCuts            the whole claim: of every group, every write, store or scrub that is accepted, and every list of such retries
+--   RepairsCuts            the whole claim: of every group, every write, shared write, store or scrub that is accepted, and every list of such retries
 use Prim.Native.Nat.{ℕ, _+_, _≤_}
 use mathlib.Core.Path.{_≡_}
-use mathlib.Core.Bool.{true}
+use mathlib.Core.Bool.{Bool, true}
 use mathlib.Core.List.{List, [], _∷_, _++_}
 use lib.ListN.{length, take, drop}
 use Rattle.order.specs.Refusals.{numberOf, Told}
@@ -38,7 +38,7 @@ use Rattle.push_up.specs.PushProgram.{counted, played, IsPushProgram}
 use Rattle.take_over.specs.TakeOver.{takeOverOf}
 use Rattle.engine.specs.Scrub.{Step}
 use Rattle.plain_machine.specs.declared.Call.{Call}
-use Rattle.plain_machine.specs.Machine.{writes, target, earlierChecks}
+use Rattle.plain_machine.specs.Machine.{writes, marks, target, earlierChecks}
 use Rattle.rivals.specs.Rivals.{Machine}
 
 -- ---- a cut of a push program
@@ -69,8 +69,9 @@ pulsesAt ps cut = pulsesIn (pushesAt ps cut)
 
 -- ---- the same target, written again
 
-pub record IsWriteOf (n : ℕ) (t : List (List ℕ)) (c : Call) : Type 0 where
+pub record IsWriteOf (n : ℕ) (t : List (List ℕ)) (w : Bool) (c : Call) : Type 0 where
   pub raises : writes (c .kind) ≡ true
+  pub mark : marks (c .kind) ≡ w
   pub same : (g : Group) → g .n ≡ n → target g c ≡ t
   pub passes : (g : Group) → g .n ≡ n → IsGroup g → numberOf (earlierChecks g c) ≡ 0
 
@@ -90,7 +91,7 @@ module _ (run : Machine) where
   unfoldable pub AreRetries : Group → Call → List Retry → Type 0
   AreRetries g c [] = Unit {0}
   AreRetries g c (r ∷ rs) =
-      IsCut (programOf g c) (r .cut) × IsWriteOf (g .n) (target g c) (r .again) × AreRetries (takenAt g c (r .cut) .value) (r .again) rs
+      IsCut (programOf g c) (r .cut) × IsWriteOf (g .n) (target g c) (marks (c .kind)) (r .again) × AreRetries (takenAt g c (r .cut) .value) (r .again) rs
 
   unfoldable pub AllTaken : Group → Call → List Retry → Type 0
   AllTaken g c [] = Unit {0}

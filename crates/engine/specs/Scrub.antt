@@ -4,7 +4,7 @@
 --   judged v            the verdict that an answer holds, if any
 --   toldApplied a       what an answer says: its number, and what it carries
 --   quiet g             an answer with the group and nothing else: symbol 0, no verdict, no pulses, no pushes
---   programmedStep      what an answer to a write, a store or a scrub carries
+--   programmedStep      what an answer to a call that raises cells carries
 --   afterRead g t       the answer to a read of g that says t: the group stays as it is
 --   wordFound g         the codeword that a reading finds (where the order is lost, the order as it was read; nothing is written then)
 --   scrubChecks g       the checks of a scrub: 1, 2, 6, 7, 8

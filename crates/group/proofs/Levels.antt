@@ -12,7 +12,7 @@ use lib.ListN.{length, getD, set}
 use lib.Seq.{set-getD, getD-set-same, getD-set-other}
 use borrow.Author.Tests.{leb-true, le-leb}
 use Rattle.order.proofs.Cells.{both}
-use Rattle.group.specs.Levels.{level, put, AtMost, empty, more, atMost, rises, leaked}
+use Rattle.group.specs.Levels.{level, put, AtMost, empty, more, atMost, rises, leaked, sum}
 
 -- ---- reading, and reading after a change
 
@@ -110,10 +110,6 @@ true-at-most empty = refl
 true-at-most (more h p) = rw (le-leb _ _ h) (true-at-most p)
 
 -- ---- sums and rises
-
-unfoldable pub sum : List ℕ → ℕ
-sum [] = 0
-sum (x ∷ xs) = x + sum xs
 
 pub sum-mono : {xs ys : List ℕ} → AtMost xs ys → sum xs ≤ sum ys
 unfolding sum

@@ -4,6 +4,7 @@
 --   put ls c v       the list with that of cell c set to v
 --   AtMost xs ys     no number of the first list is above its partner in the second; the lists are equally long. For the laws, and for demand 3
 --   atMost xs ys     the test of it
+--   sum xs           the sum of the numbers of a list
 --   rises xs ys      the sum of the rises from the first levels to the second
 --   leaked c d ls    the level of cell c falls by d, but not below 0
 use Prim.Native.Nat.{ℕ, _+_, _-_, _≤_}
@@ -27,6 +28,10 @@ atMost [] [] = true
 atMost [] (y ∷ ys) = false
 atMost (x ∷ xs) [] = false
 atMost (x ∷ xs) (y ∷ ys) = leb x y && atMost xs ys
+
+unfoldable pub sum : List ℕ → ℕ
+sum [] = 0
+sum (x ∷ xs) = x + sum xs
 
 unfoldable pub rises : List ℕ → List ℕ → ℕ
 rises [] ys = 0

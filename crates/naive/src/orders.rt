@@ -64,7 +64,7 @@ pub fn with_ranks(ranks: [u8; 12], n: usize) -> Ranks {
 }
 
 // How many of the first n places hold x.
-fn times(values: [u8; 12], n: usize, x: usize) -> usize {
+pub fn times(values: [u8; 12], n: usize, x: usize) -> usize {
     let mut count: usize = 0;
     for i in 0..12 {
         if i < n {
@@ -77,7 +77,7 @@ fn times(values: [u8; 12], n: usize, x: usize) -> usize {
 }
 
 // Whether the places from n on hold 0.
-fn is_clear_from(values: [u8; 12], n: usize) -> bool {
+pub fn is_clear_from(values: [u8; 12], n: usize) -> bool {
     for i in 0..12 {
         if n <= i {
             if values[i] != 0 {

@@ -1,7 +1,8 @@
-// The calls on symbols, groups, runs of cells and pages, by the definitions of document 01 and of requests (a) to (e): the rest of
+// The calls on symbols, groups, runs of cells and pages, by the definitions of document 01 and of requests (a) to (e) and (g): the rest of
 // the second implementation, `naive`, and proved safe and ending like it.
 pub mod cuts;
 pub mod machine;
 pub mod pages;
+pub mod shared;
 pub mod symbols;
 pub mod windows;

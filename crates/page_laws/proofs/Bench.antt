@@ -21,6 +21,7 @@ use Rattle.push_up.specs.WriteAnswer.{raised, fits, pushed}
 use Rattle.sensing.specs.Sense.{standsAbove, insert, sorted, sensed}
 use Rattle.engine.specs.ReadStore.{readOf, storeOf}
 use Rattle.plain_machine.specs.declared.Kind.the-variants.{Wear}
+use Rattle.sharing.specs.Shared.{plainTarget}
 use Rattle.plain_machine.specs.declared.Call.{Call}
 use Rattle.plain_machine.specs.Machine.{applyOf}
 use Rattle.rivals.specs.Starred.{places, cell, capped, group, done, refused}
@@ -89,7 +90,7 @@ pages-answer = (refl, refl, refl, refl, refl, refl, refl, refl, refl, refl, refl
 -- cell 3 of group 2 wears to 1, and of group 3, which the page does not have; then a page store is refused as worn by group 2, one is refused 5 by
 -- group 1, a page is read, and a page store goes through
 abbrev cell-3-wears : Call
-cell-3-wears = record { kind = Wear (cell 3) 1; target = noOrder }
+cell-3-wears = record { kind = Wear (cell 3) 1; target = plainTarget noOrder }
 
 abbrev course : List PageCall
 course = onGroup 2 cell-3-wears ∷ onGroup 3 cell-3-wears ∷ storePage (1 ∷ 1 ∷ []) ∷ storePage (2 ∷ 0 ∷ []) ∷ readPage ∷ storePage (1 ∷ 0 ∷ []) ∷ []

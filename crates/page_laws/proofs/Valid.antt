@@ -32,6 +32,7 @@ use Rattle.push_up.specs.WriteAnswer.{raised, fits}
 use Rattle.push_up.proofs.Orders.{order-target, Falling, shows-falling}
 use Rattle.push_up.proofs.Writes.{raised-shows}
 use Rattle.plain_machine.specs.declared.Kind.the-variants.{Wear}
+use Rattle.sharing.specs.Shared.{plainTarget}
 use Rattle.plain_machine.specs.declared.Call.{Call}
 use Rattle.plain_machine.specs.Machine.{applyOf}
 use Rattle.plain_machine.proofs.Machine.{apply-number, apply-group, worn-beyond}
@@ -102,7 +103,7 @@ module _ (n : ℕ) (p : Page) (o : OpenedPage n p) where
 
 -- the cell on top in the codeword of a symbol wears to 0
 abbrev pub wearing : ℕ → ℕ → Call
-wearing n s = record { kind = Wear (record { 0 = getD (wordOf n s) 0 0 }) 0; target = noOrder }
+wearing n s = record { kind = Wear (record { 0 = getD (wordOf n s) 0 0 }) 0; target = plainTarget noOrder }
 
 module _ (n : ℕ) (fits-size : isSize n ≡ true) (s : ℕ) where
   abbrev word : List ℕ

@@ -33,6 +33,7 @@ use Rattle.group.specs.Levels.{rises}
 use Rattle.group.specs.Record.{IsGroup}
 use Rattle.group.specs.Changes.{openOf}
 use Rattle.plain_machine.specs.declared.Kind.the-variants.{Store}
+use Rattle.sharing.specs.Shared.{plainTarget}
 use Rattle.plain_machine.specs.declared.Call.{Call}
 use Rattle.plain_machine.specs.Machine.{target, earlierChecks, applyOf}
 use Rattle.rivals.specs.Rivals.{Rival, latest, after, pulsesOf, Course, plain, Raisable, Demand3}
@@ -62,7 +63,7 @@ unfoldable pub stands : Told AfterStore → ℕ → Bool
 stands t k = ifDone (t .number) true (isWorn (t .number) && eqb (t .value .group) k)
 
 abbrev pub storeCall : ℕ → Call
-storeCall s = record { kind = Store s; target = noOrder }
+storeCall s = record { kind = Store s; target = plainTarget noOrder }
 
 abbrev pub HoldsGroups : Page → Type 0
 HoldsGroups p = (k : ℕ) → among (p .count) k ≡ true → IsGroup (groupAt p k)

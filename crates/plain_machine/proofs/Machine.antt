@@ -1,4 +1,4 @@
--- The seven calls as one answer each: its checks, what it carries where all of them hold, when worn is given, and that the pushes that an
+-- The eight calls as one answer each: its checks, what it carries where all of them hold, when worn is given, and that the pushes that an
 -- answer carries are a push program to the levels that it leaves, and its pulses the sum of the rises.
 -- Assumes nothing.
 use Prim.Native.Nat.{ℕ, zero, suc, _-_, _≤_, zero-le}
@@ -7,14 +7,12 @@ use mathlib.Core.Bool.{Bool, true, false, false≢true, cond}
 use mathlib.Core.List.{List, [], _∷_, _++_}
 use mathlib.Core.Option.{none}
 use native.Mathlib.Omega.{arith}
-use lib.Dec.{leb}
 use lib.ListN.{length, replicate}
-use Rattle.order.specs.declared.Order.{Order}
 use Rattle.order.specs.declared.Refusal.{Refusal}
-use Rattle.order.specs.declared.Refusal.the-variants.{ListShort, NoOrder, Worn}
+use Rattle.order.specs.declared.Refusal.the-variants.{ListShort, NoOrder, RankSizes, Worn}
 use Rattle.order.specs.Refusals.{numberOf, ifDone, Told, answer}
 use Rattle.order.specs.Cells.{isOrder}
-use Rattle.order.specs.Order.{listed, isOrderOf}
+use Rattle.order.specs.Order.{listed}
 use Rattle.order.proofs.Refusals.{check-fails, check-held, later-decide, all-held}
 use Rattle.order.proofs.Check.{order-parts}
 use Rattle.coordinates.specs.Conversion.{coordinateAt}
@@ -36,17 +34,22 @@ use Rattle.push_up.proofs.Orders.{TargetOf, order-target}
 use Rattle.push_up.proofs.Writes.{push-held, pushes-few, write-group, raised-shows}
 use Rattle.push_up.specs.PushProgram.{counted, IsPushProgram}
 use Rattle.push_up.proofs.Programs.{counted-pulses, counted-program, no-pushes}
-use Rattle.push_list.specs.LentWrite.{intoChecks, writeIntoOf, carriedOf}
-use Rattle.push_list.proofs.Written.{into-group}
+use Rattle.sharing.specs.declared.Ranked.{Ranked}
+use Rattle.sharing.specs.Shared.{sharedTarget, sharedChecks, writeSharedOf}
+use Rattle.sharing.proofs.Targets.{shared-target}
+use Rattle.sharing.proofs.Ones.{shared-group}
+use Rattle.push_room.specs.Room.{intoChecks, writeIntoOf, sharedIntoChecks, writeSharedIntoOf}
+use Rattle.push_room.proofs.Answers.{into-answer, shared-into-answer, into-group}
+use Rattle.push_list.specs.LentWrite.{Carried, carriedOf}
 use Rattle.sensing.proofs.Sensed.{sensed-order}
 use Rattle.plain_machine.specs.declared.Kind.{Kind}
-use Rattle.plain_machine.specs.declared.Kind.the-variants.{Write, WriteInto, Store, Scrub, Leak, Wear, Erase, Read}
+use Rattle.plain_machine.specs.declared.Kind.the-variants.{Write, WriteInto, WriteShared, WriteSharedInto, Store, Scrub, Leak, Wear, Erase, Read}
 use Rattle.plain_machine.specs.declared.Call.{Call}
 use Rattle.engine.specs.ReadStore.{sensedOrder, placeRead, readChecks, readingOf, readOf, storeChecks, storeOf}
 use Rattle.engine.specs.Scrub.{Step, quiet, programmedStep, wordFound, scrubOf, afterRead}
 use Rattle.engine.proofs.Holds.{store-group}
 use Rattle.engine.proofs.Scrubs.{scrub-group}
-use Rattle.plain_machine.specs.Machine.{writes, targetBy, target, checksBy, checks, earlierBy, earlierChecks, afterProgram, afterChange, applyBy, applyOf}
+use Rattle.plain_machine.specs.Machine.{writes, marks, targetBy, target, checksBy, checks, earlierBy, earlierChecks, afterProgram, afterChange, applyBy, applyOf}
 
 -- ---- answers
 
@@ -54,15 +57,17 @@ use Rattle.plain_machine.specs.Machine.{writes, targetBy, target, checks
 abbrev readStep : Group → Reading → Step
 readStep g r = record { group = g; symbol = r .symbol; verdict = r .verdict; pulses = 0; count = 0; pushes = pushArray [] }
 
-abbrev pub acceptBy : Group → Order → Kind → Step
-acceptBy g o Write = programmedStep (pushed true g (singles (listed o))) 0 none
-acceptBy g o (WriteInto room) = programmedStep (pushed true g (singles (listed o))) 0 none
-acceptBy g o (Store s) = programmedStep (pushed true g (singles (wordOf (g .n) s))) s none
-acceptBy g o Scrub = programmedStep (pushed true g (singles (wordFound g))) (readingOf g .symbol) (readingOf g .verdict)
-acceptBy g o (Leak c d) = quiet (withLevels g (leaked (c .0) d (g .levels)))
-acceptBy g o (Wear c cap) = quiet (withCaps g (put (g .caps) (c .0) cap))
-acceptBy g o Erase = quiet (erased g)
-acceptBy g o Read = readStep g (readingOf g)
+abbrev pub acceptBy : Group → Ranked → Kind → Step
+acceptBy g a Write = programmedStep (pushed true g (singles (listed (a .cells)))) 0 none
+acceptBy g a (WriteInto room) = programmedStep (pushed true g (singles (listed (a .cells)))) 0 none
+acceptBy g a WriteShared = programmedStep (pushed false g (sharedTarget (g .n) a)) 0 none
+acceptBy g a (WriteSharedInto room) = programmedStep (pushed false g (sharedTarget (g .n) a)) 0 none
+acceptBy g a (Store s) = programmedStep (pushed true g (singles (wordOf (g .n) s))) s none
+acceptBy g a Scrub = programmedStep (pushed true g (singles (wordFound g))) (readingOf g .symbol) (readingOf g .verdict)
+acceptBy g a (Leak c d) = quiet (withLevels g (leaked (c .0) d (g .levels)))
+acceptBy g a (Wear c cap) = quiet (withCaps g (put (g .caps) (c .0) cap))
+acceptBy g a Erase = quiet (erased g)
+acceptBy g a Read = readStep g (readingOf g)
 
 abbrev pub accept : Group → Call → Step
 accept g c = acceptBy g (c .target) (c .kind)
@@ -71,15 +76,17 @@ accept g c = acceptBy g (c .target) (c .kind)
 abbrev pub programPart : Step → Program
 programPart s = record { group = s .group; pulses = s .pulses; count = s .count; pushes = s .pushes }
 
-accept-pushed : (g : Group) (o : Order) (k : Kind) → writes k ≡ true → programPart (acceptBy g o k) ≡ pushed true g (targetBy g o k)
-accept-pushed g o Write w = refl
-accept-pushed g o (WriteInto room) w = refl
-accept-pushed g o (Store s) w = refl
-accept-pushed g o Scrub w = refl
-accept-pushed g o (Leak c d) w = absurd (false≢true w)
-accept-pushed g o (Wear c cap) w = absurd (false≢true w)
-accept-pushed g o Erase w = absurd (false≢true w)
-accept-pushed g o Read w = absurd (false≢true w)
+accept-pushed : (g : Group) (a : Ranked) (k : Kind) → writes k ≡ true → programPart (acceptBy g a k) ≡ pushed (marks k) g (targetBy g a k)
+accept-pushed g a Write w = refl
+accept-pushed g a (WriteInto room) w = refl
+accept-pushed g a WriteShared w = refl
+accept-pushed g a (WriteSharedInto room) w = refl
+accept-pushed g a (Store s) w = refl
+accept-pushed g a Scrub w = refl
+accept-pushed g a (Leak c d) w = absurd (false≢true w)
+accept-pushed g a (Wear c cap) w = absurd (false≢true w)
+accept-pushed g a Erase w = absurd (false≢true w)
+accept-pushed g a Read w = absurd (false≢true w)
 
 -- an answer's value, and what is made of it
 module _ (list : List (Bool × Refusal)) (g : Group) where
@@ -109,34 +116,41 @@ module _ (list : List (Bool × Refusal)) (g : Group) where
       go zero = refl
       go (suc k) = refl
 
-apply-by : (g : Group) (o : Order) (k : Kind) → applyBy g o k ≡ answer (checksBy g o k) (acceptBy g o k) (quiet g)
-unfolding writeOf writeIntoOf storeOf scrubOf leakOf wearOf eraseOf readOf
-apply-by g o Write = after-program (writeChecks g o) g _ _
-apply-by g o (WriteInto room) = after-program (intoChecks g o room) g _ _
-apply-by g o (Store s) = after-program (storeChecks g s) g _ _
-apply-by g o Scrub = refl
-apply-by g o (Leak c d) = after-change (cellChecks g c) g _
-apply-by g o (Wear c cap) = after-change (wearChecks g c cap) g _
-apply-by g o Erase = after-change (groupChecks g) g _
-apply-by g o Read = after-read (readChecks g) g _
+apply-by : (g : Group) (a : Ranked) (k : Kind) → applyBy g a k ≡ answer (checksBy g a k) (acceptBy g a k) (quiet g)
+unfolding writeOf writeIntoOf writeSharedOf writeSharedIntoOf storeOf scrubOf leakOf wearOf eraseOf readOf
+apply-by g a Write = after-program (writeChecks g (a .cells)) g _ _
+apply-by g a (WriteInto room) = after-program (intoChecks g (a .cells) room) g _ _
+apply-by g a WriteShared = after-program (sharedChecks g a) g _ _
+apply-by g a (WriteSharedInto room) = after-program (sharedIntoChecks g a room) g _ _
+apply-by g a (Store s) = after-program (storeChecks g s) g _ _
+apply-by g a Scrub = refl
+apply-by g a (Leak c d) = after-change (cellChecks g c) g _
+apply-by g a (Wear c cap) = after-change (wearChecks g c cap) g _
+apply-by g a Erase = after-change (groupChecks g) g _
+apply-by g a Read = after-read (readChecks g) g _
 
 pub apply-number : (g : Group) (c : Call) → applyOf g c .number ≡ numberOf (checks g c)
 unfolding applyOf answer
 apply-number g c = ap (λ (t : Told Step). t .number) (apply-by g (c .target) (c .kind))
 
--- a write into a lent list of so many places, and the machine's answer to it: number, group, pulses and how many pushes are the same
-pub into-applied : (g : Group) (o : Order) (room : ℕ)
-    → let t = applyOf g (record { kind = WriteInto room; target = o }) in
-    carriedOf (writeIntoOf g o room) ≡ record { number = t .number; value = record { group = t .value .group; pulses = t .value .pulses; count = t .value .count } }
+-- a write or a shared write into a lent list of so many places, and the machine's answer to it: number, group, pulses and how many pushes are the same
+abbrev carriedBy : Told Step → Told Carried
+carriedBy t = record { number = t .number; value = record { group = t .value .group; pulses = t .value .pulses; count = t .value .count } }
+
+pub into-applied : (g : Group) (a : Ranked) (room : ℕ) → carriedOf (writeIntoOf g (a .cells) room) ≡ carriedBy (applyOf g (record { kind = WriteInto room; target = a }))
 unfolding applyOf
-into-applied g o room = refl
+into-applied g a room = refl
+
+pub shared-into-applied : (g : Group) (a : Ranked) (room : ℕ) → carriedOf (writeSharedIntoOf g a room) ≡ carriedBy (applyOf g (record { kind = WriteSharedInto room; target = a }))
+unfolding applyOf
+shared-into-applied g a room = refl
 
 pub apply-value : (g : Group) (c : Call) → applyOf g c .value ≡ ifDone (numberOf (checks g c)) (accept g c) (quiet g)
 unfolding applyOf answer
 apply-value g c = ap (λ (t : Told Step). t .value) (apply-by g (c .target) (c .kind))
 
 -- an accepted one carries the push-up to its target
-pub apply-pushed : (g : Group) (c : Call) → writes (c .kind) ≡ true → applyOf g c .number ≡ 0 → programPart (applyOf g c .value) ≡ pushed true g (target g c)
+pub apply-pushed : (g : Group) (c : Call) → writes (c .kind) ≡ true → applyOf g c .number ≡ 0 → programPart (applyOf g c .value) ≡ pushed (marks (c .kind)) g (target g c)
 apply-pushed g c w e = rw (apply-value g c, sym (apply-number g c) ∙ e) (accept-pushed g (c .target) (c .kind) w)
 
 -- a refused call leaves the record, so that the machine goes where it goes by its accepted calls alone
@@ -149,15 +163,17 @@ same-group g c = rw (apply-number g c, apply-value g c) (go (numberOf (checks g 
 
 -- ---- a group stays a group
 
-group-by : (g : Group) (o : Order) (k : Kind) → IsGroup g → IsGroup (applyBy g o k .value .group)
-group-by g o Write h = write-group g o h
-group-by g o (WriteInto room) h = into-group g o room h
-group-by g o (Store s) h = store-group g s h
-group-by g o Scrub h = scrub-group g h
-group-by g o (Leak c d) h = leak-group g c d h
-group-by g o (Wear c cap) h = wear-group g c cap h
-group-by g o Erase h = erase-group g h
-group-by g o Read h = h
+group-by : (g : Group) (a : Ranked) (k : Kind) → IsGroup g → IsGroup (applyBy g a k .value .group)
+group-by g a Write h = write-group g (a .cells) h
+group-by g a (WriteInto room) h = into-group (into-answer g room (a .cells)) h
+group-by g a WriteShared h = shared-group g a h
+group-by g a (WriteSharedInto room) h = into-group (shared-into-answer g room a) h
+group-by g a (Store s) h = store-group g s h
+group-by g a Scrub h = scrub-group g h
+group-by g a (Leak c d) h = leak-group g c d h
+group-by g a (Wear c cap) h = wear-group g c cap h
+group-by g a Erase h = erase-group g h
+group-by g a Read h = h
 
 pub apply-group : (g : Group) (c : Call) → IsGroup g → IsGroup (applyOf g c .value .group)
 unfolding applyOf
@@ -190,40 +206,71 @@ module _ (g : Group) (c : Call) (w : writes (c .kind) ≡ true) where
 
 -- ---- targets
 
--- past the earlier checks of a write, the record is a group and the target an order of its cells
-pub target-order : (g : Group) (o : Order) (k : Kind) → writes k ≡ true → numberOf (earlierBy g o k) ≡ 0
-    → (numberOf (groupChecks g) ≡ 0) × (xs : List ℕ) × (isOrder (g .n) xs ≡ true) × (targetBy g o k ≡ singles xs)
-unfolding wordOf
-target-order g o Write w e =
-    let t = all-held _ (groupChecks g) e in
-    (t .0, listed o, order-parts (g .n) o (check-held (isOrderOf (g .n) o) NoOrder [] (t .1) .0) .1 .order, refl)
-target-order g o (WriteInto room) w e =
-    let t = all-held _ (groupChecks g) e in
-    let roomy = check-held (leb (g .n - 1) room) ListShort _ (t .1) in
-    (t .0, listed o, order-parts (g .n) o (check-held (isOrderOf (g .n) o) NoOrder [] (roomy .1) .0) .1 .order, refl)
-target-order g o (Store s) w e = (all-held _ (groupChecks g) e .0, wordOf (g .n) s, order-of-any (coordinateAt (wordAt (g .n) s)) (g .n), refl)
-target-order g o Scrub w e =
-    (all-held _ (groupChecks g) e .0, wordFound g, exchange-order (g .n) (sensedOrder g) (sensed-order (g .n) (g .levels)) (placeRead g), refl)
-target-order g o (Leak c d) w e = absurd (false≢true w)
-target-order g o (Wear c cap) w e = absurd (false≢true w)
-target-order g o Erase w e = absurd (false≢true w)
-target-order g o Read w e = absurd (false≢true w)
+-- past the earlier checks of a call that raises cells, the record is a group
+pub checked-group : (g : Group) (a : Ranked) (k : Kind) → writes k ≡ true → numberOf (earlierBy g a k) ≡ 0 → numberOf (groupChecks g) ≡ 0
+checked-group g a Write w e = all-held _ (groupChecks g) e .0
+checked-group g a (WriteInto room) w e = all-held _ (groupChecks g) e .0
+checked-group g a WriteShared w e = all-held _ (groupChecks g) e .0
+checked-group g a (WriteSharedInto room) w e = all-held _ (groupChecks g) e .0
+checked-group g a (Store s) w e = all-held _ (groupChecks g) e .0
+checked-group g a Scrub w e = all-held _ (groupChecks g) e .0
+checked-group g a (Leak c d) w e = absurd (false≢true w)
+checked-group g a (Wear c cap) w e = absurd (false≢true w)
+checked-group g a Erase w e = absurd (false≢true w)
+checked-group g a Read w e = absurd (false≢true w)
 
--- so it is a target of them
-pub target-of : (g : Group) (o : Order) (k : Kind) → writes k ≡ true → numberOf (earlierBy g o k) ≡ 0 → TargetOf (g .n) (targetBy g o k)
-target-of g o k w e = let (_, xs, t, same) = target-order g o k w e in rw same (order-target (g .n) xs t)
+-- the target of a call that sets the mark is an order of its cells
+pub target-order : (g : Group) (a : Ranked) (k : Kind) → marks k ≡ true → numberOf (earlierBy g a k) ≡ 0 → (xs : List ℕ) × (isOrder (g .n) xs ≡ true) × (targetBy g a k ≡ singles xs)
+unfolding wordOf
+target-order g a Write w e =
+    let t = all-held _ (groupChecks g) e in
+    (listed (a .cells), order-parts (g .n) (a .cells) (check-held _ NoOrder [] (t .1) .0) .1 .order, refl)
+target-order g a (WriteInto room) w e =
+    let t = check-held _ ListShort _ (all-held _ (groupChecks g) e .1) in
+    (listed (a .cells), order-parts (g .n) (a .cells) (check-held _ NoOrder [] (t .1) .0) .1 .order, refl)
+target-order g a WriteShared w e = absurd (false≢true w)
+target-order g a (WriteSharedInto room) w e = absurd (false≢true w)
+target-order g a (Store s) w e = (wordOf (g .n) s, order-of-any (coordinateAt (wordAt (g .n) s)) (g .n), refl)
+target-order g a Scrub w e = (wordFound g, exchange-order (g .n) (sensedOrder g) (sensed-order (g .n) (g .levels)) (placeRead g), refl)
+target-order g a (Leak c d) w e = absurd (false≢true w)
+target-order g a (Wear c cap) w e = absurd (false≢true w)
+target-order g a Erase w e = absurd (false≢true w)
+target-order g a Read w e = absurd (false≢true w)
+
+-- every target is one of its cells
+ordered-target : (g : Group) (a : Ranked) (k : Kind) → marks k ≡ true → numberOf (earlierBy g a k) ≡ 0 → TargetOf (g .n) (targetBy g a k)
+ordered-target g a k w e = let (xs, t, same) = target-order g a k w e in rw same (order-target (g .n) xs t)
+
+pub target-of : (g : Group) (a : Ranked) (k : Kind) → writes k ≡ true → numberOf (earlierBy g a k) ≡ 0 → TargetOf (g .n) (targetBy g a k)
+target-of g a Write w e = ordered-target g a Write refl e
+target-of g a (WriteInto room) w e = ordered-target g a (WriteInto room) refl e
+target-of g a WriteShared w e =
+    let sizes = check-held _ RankSizes _ (all-held _ (groupChecks g) e .1) in
+    shared-target (g .n) a (sizes .0) (check-held _ NoOrder [] (sizes .1) .0)
+target-of g a (WriteSharedInto room) w e =
+    let roomy = check-held _ ListShort _ (all-held _ (groupChecks g) e .1) in
+    let sizes = check-held _ RankSizes _ (roomy .1) in
+    shared-target (g .n) a (sizes .0) (check-held _ NoOrder [] (sizes .1) .0)
+target-of g a (Store s) w e = ordered-target g a (Store s) refl e
+target-of g a Scrub w e = ordered-target g a Scrub refl e
+target-of g a (Leak c d) w e = absurd (false≢true w)
+target-of g a (Wear c cap) w e = absurd (false≢true w)
+target-of g a Erase w e = absurd (false≢true w)
+target-of g a Read w e = absurd (false≢true w)
 
 -- at most n - 1 pushes
-accept-few : (g : Group) (o : Order) (k : Kind) → numberOf (earlierBy g o k) ≡ 0 → acceptBy g o k .count ≤ g .n - 1
+accept-few : (g : Group) (a : Ranked) (k : Kind) → numberOf (earlierBy g a k) ≡ 0 → acceptBy g a k .count ≤ g .n - 1
 unfolding pushed
-accept-few g o Write e = pushes-few true g _ (target-of g o Write refl e)
-accept-few g o (WriteInto room) e = pushes-few true g _ (target-of g o (WriteInto room) refl e)
-accept-few g o (Store s) e = pushes-few true g _ (target-of g o (Store s) refl e)
-accept-few g o Scrub e = pushes-few true g _ (target-of g o Scrub refl e)
-accept-few g o (Leak c d) e = zero-le
-accept-few g o (Wear c cap) e = zero-le
-accept-few g o Erase e = zero-le
-accept-few g o Read e = zero-le
+accept-few g a Write e = pushes-few true g _ (target-of g a Write refl e)
+accept-few g a (WriteInto room) e = pushes-few true g _ (target-of g a (WriteInto room) refl e)
+accept-few g a WriteShared e = pushes-few false g _ (target-of g a WriteShared refl e)
+accept-few g a (WriteSharedInto room) e = pushes-few false g _ (target-of g a (WriteSharedInto room) refl e)
+accept-few g a (Store s) e = pushes-few true g _ (target-of g a (Store s) refl e)
+accept-few g a Scrub e = pushes-few true g _ (target-of g a Scrub refl e)
+accept-few g a (Leak c d) e = zero-le
+accept-few g a (Wear c cap) e = zero-le
+accept-few g a Erase e = zero-le
+accept-few g a Read e = zero-le
 
 pub apply-few : (g : Group) (c : Call) → applyOf g c .value .count ≤ g .n - 1
 apply-few g c =
@@ -241,17 +288,17 @@ target-shows g c h w e = raised-shows g (target g c) h (target-of g (c .target) 
 abbrev carried : Step → List Push
 carried s = counted (s .count) (s .pushes)
 
-module _ (g : Group) (o : Order) (twelve : length (g .levels) ≡ 12) where
-  target-program : (k : Kind) → writes k ≡ true → numberOf (earlierBy g o k) ≡ 0
-      → let p = pushed true g (targetBy g o k) in IsPushProgram (counted (p .count) (p .pushes)) (g .levels) (p .group .levels)
+module _ (g : Group) (a : Ranked) (twelve : length (g .levels) ≡ 12) where
+  target-program : (k : Kind) → writes k ≡ true → numberOf (earlierBy g a k) ≡ 0
+      → let p = pushed (marks k) g (targetBy g a k) in IsPushProgram (counted (p .count) (p .pushes)) (g .levels) (p .group .levels)
   target-program k w e =
-      counted-program true g _ (target-of g o k w e) (omega (arith, twelve, checked-size g (target-order g o k w e .0)))
+      counted-program (marks k) g _ (target-of g a k w e) (omega (arith, twelve, checked-size g (checked-group g a k w e)))
 
-  accept-program : (k : Kind) → writes k ≡ true → numberOf (earlierBy g o k) ≡ 0 → IsPushProgram (carried (acceptBy g o k)) (g .levels) (acceptBy g o k .group .levels)
+  accept-program : (k : Kind) → writes k ≡ true → numberOf (earlierBy g a k) ≡ 0 → IsPushProgram (carried (acceptBy g a k)) (g .levels) (acceptBy g a k .group .levels)
   accept-program k w e =
-      subst (λ (p : Program). IsPushProgram (counted (p .count) (p .pushes)) (g .levels) (p .group .levels)) (sym (accept-pushed g o k w)) (target-program k w e)
+      subst (λ (p : Program). IsPushProgram (counted (p .count) (p .pushes)) (g .levels) (p .group .levels)) (sym (accept-pushed g a k w)) (target-program k w e)
 
--- the answer to a write, a store or a scrub, also one that is refused, carries a push program from the levels that it found to those that it left
+-- the answer to a call that raises cells, also one that is refused, carries a push program from the levels that it found to those that it left
 pub apply-program : (g : Group) (c : Call) → length (g .levels) ≡ 12 → writes (c .kind) ≡ true
     → let s = applyOf g c .value in IsPushProgram (counted (s .count) (s .pushes)) (g .levels) (s .group .levels)
 apply-program g c twelve w =
@@ -260,16 +307,18 @@ apply-program g c twelve w =
     (λ e. accept-program g (c .target) twelve (c .kind) w (done-checks g c w e .0)) (no-pushes (g .levels)))
 
 -- the pulses of any answer are those of the pushes that it carries
-accept-pulses : (g : Group) (o : Order) (k : Kind) → acceptBy g o k .pulses ≡ pulsesIn (carried (acceptBy g o k))
+accept-pulses : (g : Group) (a : Ranked) (k : Kind) → acceptBy g a k .pulses ≡ pulsesIn (carried (acceptBy g a k))
 unfolding pulsesIn
-accept-pulses g o Write = counted-pulses true g _
-accept-pulses g o (WriteInto room) = counted-pulses true g _
-accept-pulses g o (Store s) = counted-pulses true g _
-accept-pulses g o Scrub = counted-pulses true g _
-accept-pulses g o (Leak c d) = refl
-accept-pulses g o (Wear c cap) = refl
-accept-pulses g o Erase = refl
-accept-pulses g o Read = refl
+accept-pulses g a Write = counted-pulses true g _
+accept-pulses g a (WriteInto room) = counted-pulses true g _
+accept-pulses g a WriteShared = counted-pulses false g _
+accept-pulses g a (WriteSharedInto room) = counted-pulses false g _
+accept-pulses g a (Store s) = counted-pulses true g _
+accept-pulses g a Scrub = counted-pulses true g _
+accept-pulses g a (Leak c d) = refl
+accept-pulses g a (Wear c cap) = refl
+accept-pulses g a Erase = refl
+accept-pulses g a Read = refl
 
 pub apply-pulses : (g : Group) (c : Call) → let s = applyOf g c .value in s .pulses ≡ pulsesIn (counted (s .count) (s .pushes))
 unfolding pulsesIn
@@ -286,15 +335,17 @@ rises-zeros (x ∷ xs) zero = refl
 rises-zeros (x ∷ xs) (suc k) = omega (arith, rises-zeros xs k)
 
 -- a call that writes nothing raises nothing
-pub kept-rises : (g : Group) (o : Order) (k : Kind) → writes k ≡ false → rises (g .levels) (acceptBy g o k .group .levels) ≡ acceptBy g o k .pulses
-kept-rises g o Write w = absurd (false≢true (sym w))
-kept-rises g o (WriteInto room) w = absurd (false≢true (sym w))
-kept-rises g o (Store s) w = absurd (false≢true (sym w))
-kept-rises g o Scrub w = absurd (false≢true (sym w))
-kept-rises g o (Leak c d) w = rises-down (leaked-below (c .0) d (g .levels))
-kept-rises g o (Wear c cap) w = rises-down (at-most-refl (g .levels))
-kept-rises g o Erase w = rises-zeros (g .levels) 12
-kept-rises g o Read w = rises-down (at-most-refl (g .levels))
+pub kept-rises : (g : Group) (a : Ranked) (k : Kind) → writes k ≡ false → rises (g .levels) (acceptBy g a k .group .levels) ≡ acceptBy g a k .pulses
+kept-rises g a Write w = absurd (false≢true (sym w))
+kept-rises g a (WriteInto room) w = absurd (false≢true (sym w))
+kept-rises g a WriteShared w = absurd (false≢true (sym w))
+kept-rises g a (WriteSharedInto room) w = absurd (false≢true (sym w))
+kept-rises g a (Store s) w = absurd (false≢true (sym w))
+kept-rises g a Scrub w = absurd (false≢true (sym w))
+kept-rises g a (Leak c d) w = rises-down (leaked-below (c .0) d (g .levels))
+kept-rises g a (Wear c cap) w = rises-down (at-most-refl (g .levels))
+kept-rises g a Erase w = rises-zeros (g .levels) 12
+kept-rises g a Read w = rises-down (at-most-refl (g .levels))
 
 pub apply-rises : (g : Group) (c : Call) → length (g .levels) ≡ 12 → rises (g .levels) (applyOf g c .value .group .levels) ≡ applyOf g c .value .pulses
 apply-rises g c twelve = go (writes (c .kind)) refl

@@ -1,25 +1,29 @@
-// The plain machine (document 01, "The plain machine"): `apply`, one of the seven calls of demand 3. It takes any record and any call and answers
-// them by one equation with a definition of specs/. Proved besides: a group stays a group under every call, the pushes of a write, a store or a scrub
-// are a push program from the levels found to those left, and the pulses of an answer are the rises of its levels (proofs/Machine).
+// The plain machine (document 01, "The plain machine"; document 02, request (g), for the shared write): `apply`, one of the eight calls of demand 3. It takes
+// any record and any call and answers them by one equation with a definition of specs/. Proved besides: a group stays a group under every call, the pushes of
+// a call that raises cells are a push program from the levels found to those left, the pulses of an answer are the rises of its levels (proofs/Machine), and
+// after a shared write a group is blank (proofs/Blank).
 use engine::Applied;
 use engine::Judged;
 use group::Changed;
 use group::Group;
 use order::Cell;
-use order::Order;
 use order::Outcome;
 use push_up::Written;
+use sharing::Ranked;
 ghost use mathlib.Core.Path.{_≡_};
 ghost use Rattle.group.specs.Changes.{toldChanged};
 ghost use Rattle.push_up.specs.WriteAnswer.{toldWritten};
 ghost use Rattle.engine.specs.Scrub.{toldApplied};
 ghost use Rattle.plain_machine.specs.Machine.{afterProgram, afterChange, applyOf};
 
-// One of the seven calls of demand 3, with its numbers. The order of a write stands beside it in the call. A write into a lent list has the room of
-// the list, that is, how many places it has; `push_list::write_into` puts the pushes there, and here they come by value too.
+// One of the eight calls of demand 3, with its numbers. The target of a write stands beside it in the call; the rank sizes there are for a shared write
+// alone. A write or a shared write into a lent list has the room of the list, that is, how many places it has; `push_list` puts the pushes there, and here
+// they come by value too.
 pub enum Kind {
     Write,
     WriteInto(usize),
+    WriteShared,
+    WriteSharedInto(usize),
     Store(u32),
     Scrub,
     Leak(Cell, u32),
@@ -30,7 +34,7 @@ pub enum Kind {
 
 pub struct Call {
     pub kind: Kind,
-    pub target: Order,
+    pub target: Ranked,
 }
 
 // One call of the plain machine.
@@ -40,8 +44,13 @@ pub fn apply(g: Group, call: Call) -> Applied
     let target = call.target;
     let kind = call.kind;
     match kind {
-        Kind::Write => from_written(writing::write(g, target), 0),
-        Kind::WriteInto(room) => from_written(push_list::write_with_room(g, target, room), 0),
+        Kind::Write => from_written(writing::write(g, target.cells), 0),
+        Kind::WriteInto(room) => from_written(push_room::write_with_room(g, target.cells, room), 0),
+        Kind::WriteShared => from_written(sharing::write_shared(g, target), 0),
+        Kind::WriteSharedInto(room) => from_written(
+            push_room::write_shared_with_room(g, target, room),
+            0,
+        ),
         Kind::Store(symbol) => from_written(engine::store(g, symbol), symbol),
         Kind::Scrub => engine::scrub(g),
         Kind::Leak(cell, d) => from_changed(group::leak(g, cell, d)),
@@ -60,7 +69,7 @@ fn from_changed(answer: Changed) -> Applied
     engine::unchanged(outcome, group)
 }
 
-// The answer of a write, or of a store of a symbol.
+// The answer of a write or a shared write, or of a store of a symbol.
 fn from_written(answer: Written, symbol: u32) -> Applied
     ensures { λ r. ⌜ toldApplied r ≡ afterProgram (toldWritten answer) symbol ⌝ }
 {

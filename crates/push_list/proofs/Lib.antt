@@ -1,9 +1,8 @@
 pub mod Filled
-pub mod Plans
 pub mod Written
-pub mod Row
 pub mod Told
 pub mod Walking
 pub mod Arrays
 pub mod Pushes
 pub mod FillCall
+pub mod LentCall

@@ -1,18 +1,20 @@
 // The lent list of pushes (document 01: "The call that fills a lent list of pushes writes the pushes first and leaves the later places
-// untouched"). What is written there is decided by value, in `write_with_room`; only `fill` and `write_into` have a slice of pushes, and these
-// two are proved by hand. Each public function takes any record; equations fix its answer and its list. Proved besides: with room enough the
-// answer is that of `writing::write`, and the list starts with its pushes, a push program from the old levels to the new ones (proofs/Written).
+// untouched"; document 02, request (g): a shared write into such a list). What is written there is decided by value, in `push_room`; only `fill` and
+// the two public functions have a slice of pushes, and these are proved by hand. Each public function takes any record; equations fix its answer and its list.
+// Proved besides: with room enough the answer is that of the write by value, and the list starts with its pushes, a push program from the old levels to the
+// new ones (proofs/Written).
 use group::Group;
 use order::Order;
 use order::Outcome;
-use order::Refusal;
 use push_up::Push;
 use push_up::Written;
+use sharing::Ranked;
 ghost use mathlib.Core.Path.{_≡_};
 ghost use Prim.Native.Nat.{_≤_};
 ghost use lib.ListN.{length};
 ghost use Rattle.push_up.specs.WriteAnswer.{toldWritten};
-ghost use Rattle.push_list.specs.LentWrite.{writeIntoOf, carriedOf, toldInto, filled, listAfter};
+ghost use Rattle.push_room.specs.Room.{writeIntoOf, writeSharedIntoOf};
+ghost use Rattle.push_list.specs.LentWrite.{carriedOf, toldInto, filled, listAfter};
 ghost use Rattle.push_list.specs.Steps.{toldPlan};
 
 // The answer of a write into a lent list: the pushes are the first count places of the list, from low to high.
@@ -31,9 +33,20 @@ struct Plan {
 
 // Minimal push-up to an order, with its pushes in a lent list. A refused write has none, and leaves the list as it was.
 pub fn write_into(g: Group, target: Order, list: &mut [Push]) -> WrittenInto
-    ensures { λ r. ⌜ (toldInto r ≡ carriedOf (writeIntoOf g target (length (now (list .entry))))) × (now (list .exit) ≡ listAfter g target (now (list .entry))) ⌝ }
+    ensures { λ r. ⌜ (toldInto r ≡ carriedOf (writeIntoOf g target (length (now (list .entry))))) × (now (list .exit) ≡ listAfter (writeIntoOf g target (length (now (list .entry)))) (now (list .entry))) ⌝ }
 {
     let plan = decide(g, target, list.len());
+    let pushes = plan.pushes;
+    let count = plan.answer.count;
+    fill(list, pushes, count);
+    plan.answer
+}
+
+// The same of a target with several cells on one rank.
+pub fn write_shared_into(g: Group, target: Ranked, list: &mut [Push]) -> WrittenInto
+    ensures { λ r. ⌜ (toldInto r ≡ carriedOf (writeSharedIntoOf g target (length (now (list .entry))))) × (now (list .exit) ≡ listAfter (writeSharedIntoOf g target (length (now (list .entry)))) (now (list .entry))) ⌝ }
+{
+    let plan = decide_shared(g, target, list.len());
     let pushes = plan.pushes;
     let count = plan.answer.count;
     fill(list, pushes, count);
@@ -44,21 +57,13 @@ pub fn write_into(g: Group, target: Order, list: &mut [Push]) -> WrittenInto
 fn decide(g: Group, target: Order, room: usize) -> Plan
     ensures { λ r. ⌜ toldPlan r ≡ writeIntoOf g target room ⌝ }
 {
-    plan_of(write_with_room(g, target, room))
+    plan_of(push_room::write_with_room(g, target, room))
 }
 
-// What a write into a list of so many places answers, with its pushes by value. 10 is checked after 2 and before 4.
-pub fn write_with_room(g: Group, target: Order, room: usize) -> Written
-    ensures { λ r. ⌜ toldWritten r ≡ writeIntoOf g target room ⌝ }
+fn decide_shared(g: Group, target: Ranked, room: usize) -> Plan
+    ensures { λ r. ⌜ toldPlan r ≡ writeSharedIntoOf g target room ⌝ }
 {
-    let checked = group::check(g);
-    let Outcome::Done = checked else {
-        return push_up::unwritten(checked, g);
-    };
-    if room < g.n - 1 {
-        return push_up::unwritten(Outcome::Refused(Refusal::ListShort), g);
-    }
-    writing::write(g, target)
+    plan_of(push_room::write_shared_with_room(g, target, room))
 }
 
 // The answer of a write, with its pushes beside it.

@@ -7,3 +7,4 @@ pub mod Row
 pub mod Writes
 pub mod Stairs
 pub mod OneMore
+pub mod FullCaps

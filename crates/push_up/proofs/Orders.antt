@@ -67,6 +67,11 @@ module _ {n c : ℕ} {cs : List ℕ} (s : CellsOf n (c ∷ cs)) where
   pub first-new : count c cs ≡ 0
   first-new = omega (arith, tally-eq c c refl, s .once c)
 
+-- a cell that is listed is one of 1 to n
+pub listed-range : (n : ℕ) (cs : List ℕ) → CellsOf n cs → (c : ℕ) → 1 ≤ count c cs → (1 ≤ c) × (c ≤ n)
+listed-range n cs s zero l = absurd (omega (arith, s .none))
+listed-range n cs s (suc c) l = (omega arith, ⊎-elim (λ t. absurd (omega (arith, s .past (suc c) (t .0)))) (λ t. t .0) (lt-cases n (suc c)))
+
 off-all : (n c : ℕ) (cs : List ℕ) → 1 ≤ c → CellsOf n cs → count c cs ≡ 0 → OffAll c (singles cs)
 unfolding singles
 off-all n c [] l s e = tt
@@ -91,7 +96,7 @@ unfolding flatten singles
 flatten-singles [] = refl
 flatten-singles (x ∷ xs) = ap (λ (ys : List ℕ). x ∷ ys) (flatten-singles xs)
 
--- a target of n cells: they stand apart, and one at least is on the lowest rank
+-- a target of n cells: they stand apart, and at most n - 1 of them stand above the lowest rank
 pub record TargetOf (n : ℕ) (t : List (List ℕ)) : Type 0 where
   pub apart : Apart n t
   pub few : cellsAbove t ≤ n - 1

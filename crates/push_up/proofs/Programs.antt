@@ -15,8 +15,8 @@ use lib.Seq.{take-at}
 use Rattle.order.specs.Cells.{tally, count, isCell}
 use Rattle.order.proofs.Cells.{tally-ne, tally-le, countIf-append, eq-cases}
 use Rattle.group.specs.declared.Group.{Group}
-use Rattle.group.specs.Levels.{level, put, AtMost}
-use Rattle.group.proofs.Levels.{put-same, at-most-length, sum, sum-put, rises-up}
+use Rattle.group.specs.Levels.{level, put, AtMost, sum}
+use Rattle.group.proofs.Levels.{put-same, at-most-length, sum-put, rises-up}
 use Rattle.push_up.specs.declared.Push.{Push}
 use Rattle.push_up.specs.PushUp.{floorOver, lift, raise, pushOf, rankPushes, pushes, pulsesIn}
 use Rattle.push_up.specs.WriteAnswer.{raised, pushed}

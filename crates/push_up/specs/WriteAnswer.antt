@@ -1,4 +1,4 @@
--- Document 01, "The plain machine": what a write answers; document 02, request (b): its pulses.
+-- Document 01, "The plain machine": what a write answers, and what a shared write and a store carry too; document 02, request (b): its pulses.
 --
 --   Program             what the answer carries: the group, the pulses, how many pushes, and the pushes with zeros after them
 --   toldWritten a       what the answer says: its number, and what it carries

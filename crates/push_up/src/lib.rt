@@ -19,7 +19,7 @@ pub struct Push {
     pub reach: u16,
 }
 
-// The answer of write: the pushes are the first count places, from low to high.
+// The answer of a call that writes a target: the pushes are the first count places, from low to high.
 pub struct Written {
     pub outcome: Outcome,
     pub group: Group,

@@ -31,6 +31,7 @@ use Rattle.group.specs.Changes.{openOf}
 use Rattle.engine.specs.Scrub.{Step}
 use Rattle.plain_machine.specs.declared.Kind.{Kind}
 use Rattle.plain_machine.specs.declared.Kind.the-variants.{Store, Scrub, Leak, Wear, Erase, Read}
+use Rattle.sharing.specs.Shared.{plainTarget}
 use Rattle.plain_machine.specs.declared.Call.{Call}
 use Rattle.plain_machine.specs.Machine.{applyOf}
 use Rattle.records.specs.declared.CallRecord.{CallRecord}
@@ -89,7 +90,7 @@ abbrev pub groupAlone : Group → Answer
 groupAlone g = record { group = g; symbol = 0; pulses = 0 }
 
 abbrev pub callOf : Kind → Call
-callOf kind = record { kind = kind; target = noOrder }
+callOf kind = record { kind = kind; target = plainTarget noOrder }
 
 abbrev pub afterApply : Told Step → Told Answer
 afterApply t =

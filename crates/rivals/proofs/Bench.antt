@@ -19,6 +19,7 @@ use Rattle.push_up.specs.WriteAnswer.{raised, fits, pushed}
 use Rattle.group.specs.Changes.{openOf, leakOf}
 use Rattle.plain_machine.specs.declared.Kind.{Kind}
 use Rattle.plain_machine.specs.declared.Kind.the-variants.{Store, Scrub, Leak, Read}
+use Rattle.sharing.specs.Shared.{plainTarget}
 use Rattle.plain_machine.specs.declared.Call.{Call}
 use Rattle.engine.specs.ReadStore.{readOf, storeOf}
 use Rattle.engine.specs.Scrub.{scrubOf}
@@ -26,7 +27,7 @@ use Rattle.plain_machine.specs.Machine.{applyOf}
 use Rattle.rivals.specs.Starred.{cell, order, group, push, step, done}
 
 abbrev call : Kind → Call
-call kind = record { kind = kind; target = order [] }
+call kind = record { kind = kind; target = plainTarget (order []) }
 
 -- open 3, store 1, leak cell 3 by 1, scrub, read: the scrub finds [3,2,1], clean
 pub case-printed :

@@ -28,11 +28,6 @@ place-later : (p x c : ℕ) (cs : List ℕ) → (c ≡ x → ⊥) → placeFrom 
 unfolding placeFrom
 place-later p x c cs d = rw (ne-eqb x c (λ e. d (sym e)))
 
--- a cell that is listed is one of 1 to n
-pub listed-range : (n : ℕ) (cs : List ℕ) → CellsOf n cs → (c : ℕ) → 1 ≤ count c cs → (1 ≤ c) × (c ≤ n)
-listed-range n cs s zero l = absurd (omega (arith, s .none))
-listed-range n cs s (suc c) l = (omega arith, ⊎-elim (λ t. absurd (omega (arith, s .past (suc c) (t .0)))) (λ t. t .0) (lt-cases n (suc c)))
-
 -- ---- how high the first cell comes
 
 -- h is the largest of the cells' levels, each with its distance from the first place p added

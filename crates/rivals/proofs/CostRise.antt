@@ -24,10 +24,10 @@ use Rattle.group.specs.Levels.{level}
 use Rattle.push_up.specs.PushUp.{singles, top}
 use Rattle.group.proofs.Levels.{at-most-level}
 use Rattle.push_up.proofs.Minimal.{raise-above}
-use Rattle.push_up.proofs.Orders.{CellsOf, order-cells}
+use Rattle.push_up.proofs.Orders.{CellsOf, order-cells, listed-range}
 use Rattle.push_up.proofs.Stairs.{stairs, stairs-at}
 use Rattle.rivals.specs.Rise.{topLevel, written, Staircase}
-use Rattle.rivals.proofs.Climb.{listed-range, Peak, raise-peak, first-highest}
+use Rattle.rivals.proofs.Climb.{Peak, raise-peak, first-highest}
 
 -- ---- the top level
 

@@ -10,22 +10,22 @@ use mathlib.Core.List.{List, [], _∷_}
 use native.Mathlib.Nat.{add-zero, add-assoc, zero-add, le-refl}
 use native.Mathlib.Omega.{arith}
 use lib.ListN.{replicate}
-use Rattle.order.specs.declared.Order.{Order}
 use Rattle.order.specs.declared.Refusal.the-variants.{Size}
 use Rattle.order.specs.Refusals.{numberOf, ifDone, Told, isSize}
 use Rattle.order.proofs.Refusals.{all-hold, check-holds, told-done}
 use Rattle.group.specs.declared.Group.{Group}
-use Rattle.group.specs.Levels.{AtMost, rises}
+use Rattle.group.specs.Levels.{AtMost, rises, sum}
 use Rattle.group.specs.Record.{opened, noGroup, IsGroup}
 use Rattle.push_up.specs.WriteAnswer.{raised, fits, pushChecks, pushed}
 use Rattle.group.specs.Changes.{openOf}
-use Rattle.group.proofs.Levels.{at-most-refl, at-most-trans, sum, sum-mono, rises-up, rises-down, leaked-mono, leaked-loss}
+use Rattle.group.proofs.Levels.{at-most-refl, at-most-trans, sum-mono, rises-up, rises-down, leaked-mono, leaked-loss}
 use Rattle.push_up.proofs.Minimal.{raise-above, raise-least}
 use Rattle.group.proofs.Groups.{open-group}
 use Rattle.take_over.proofs.Taken.{take-over-group}
 use Rattle.push_up.proofs.Writes.{push-holds, fits-where}
+use Rattle.sharing.specs.declared.Ranked.{Ranked}
 use Rattle.plain_machine.specs.declared.Kind.{Kind}
-use Rattle.plain_machine.specs.declared.Kind.the-variants.{Write, WriteInto, Store, Scrub, Leak, Wear, Erase, Read}
+use Rattle.plain_machine.specs.declared.Kind.the-variants.{Write, WriteInto, WriteShared, WriteSharedInto, Store, Scrub, Leak, Wear, Erase, Read}
 use Rattle.plain_machine.specs.declared.Call.{Call}
 use Rattle.engine.specs.Scrub.{quiet}
 use Rattle.plain_machine.specs.Machine.{writes, targetBy, target, earlierChecks, applyOf, checks}
@@ -39,10 +39,10 @@ pub record Beside (g : Group) (q : ℕ) (r : Rival) : Type 0 where
   pub cost : q + sum (r .levels) ≤ r .pulses + sum (g .levels)
 
 -- it stays so when both are raised
-beside-push : (g : Group) (q : ℕ) (r s : Rival) (t : List (List ℕ)) → Raised t r s → Beside g q r
-    → Beside (pushed true g t .group) (q + rises (g .levels) (pushed true g t .group .levels)) s
+beside-push : (w : Bool) (g : Group) (q : ℕ) (r s : Rival) (t : List (List ℕ)) → Raised t r s → Beside g q r
+    → Beside (pushed w g t .group) (q + rises (g .levels) (pushed w g t .group .levels)) s
 unfolding pushed raised
-beside-push g q r s t m b =
+beside-push w g q r s t m b =
     let old-low = at-most-trans (b .low) (m .no-lower) in
     let our-rises = rises-up (raise-above 1 t (g .levels)) in
     let their-rises = rises-up (m .no-lower) in
@@ -74,25 +74,27 @@ group-after g (c ∷ cs) h = group-after (applyOf g c .value .group) cs (apply-g
 
 -- ---- every rival stays beside us
 
-beside-accept : (g : Group) (q : ℕ) (o : Order) (k : Kind) (r s : Rival) → Follows k (targetBy g o k) r s → Beside g q r
-    → Beside (acceptBy g o k .group) (q + rises (g .levels) (acceptBy g o k .group .levels)) s
+beside-accept : (g : Group) (q : ℕ) (a : Ranked) (k : Kind) (r s : Rival) → Follows k (targetBy g a k) r s → Beside g q r
+    → Beside (acceptBy g a k .group) (q + rises (g .levels) (acceptBy g a k .group .levels)) s
 unfolding Follows
-beside-accept g q o Write r s m b = beside-push g q r s _ m b
-beside-accept g q o (WriteInto room) r s m b = beside-push g q r s _ m b
-beside-accept g q o (Store symbol) r s m b = beside-push g q r s _ m b
-beside-accept g q o Scrub r s m b = beside-push g q r s _ m b
-beside-accept g q o (Leak c d) r s m b =
+beside-accept g q a Write r s m b = beside-push true g q r s _ m b
+beside-accept g q a (WriteInto room) r s m b = beside-push true g q r s _ m b
+beside-accept g q a WriteShared r s m b = beside-push false g q r s _ m b
+beside-accept g q a (WriteSharedInto room) r s m b = beside-push false g q r s _ m b
+beside-accept g q a (Store symbol) r s m b = beside-push true g q r s _ m b
+beside-accept g q a Scrub r s m b = beside-push true g q r s _ m b
+beside-accept g q a (Leak c d) r s m b =
     rw m
     (record {
       caps = b .caps;
       low = leaked-mono (c .0) d (b .low);
-      cost = omega (arith, kept-rises g o (Leak c d) refl, b .cost, leaked-loss (c .0) d (b .low));
+      cost = omega (arith, kept-rises g a (Leak c d) refl, b .cost, leaked-loss (c .0) d (b .low));
     })
-beside-accept g q o (Wear c cap) r s m b = rw m (record { caps = rw (b .caps); low = b .low; cost = omega (arith, kept-rises g o (Wear c cap) refl, b .cost) })
-beside-accept g q o Erase r s m b =
+beside-accept g q a (Wear c cap) r s m b = rw m (record { caps = rw (b .caps); low = b .low; cost = omega (arith, kept-rises g a (Wear c cap) refl, b .cost) })
+beside-accept g q a Erase r s m b =
     rw m
-    (record { caps = b .caps; low = at-most-refl (replicate 12 0); cost = omega (arith, kept-rises g o Erase refl, b .cost, sum-mono (b .low)) })
-beside-accept g q o Read r s m b = rw m (record { caps = b .caps; low = b .low; cost = omega (arith, kept-rises g o Read refl, b .cost) })
+    (record { caps = b .caps; low = at-most-refl (replicate 12 0); cost = omega (arith, kept-rises g a Erase refl, b .cost, sum-mono (b .low)) })
+beside-accept g q a Read r s m b = rw m (record { caps = b .caps; low = b .low; cost = omega (arith, kept-rises g a Read refl, b .cost) })
 
 beside-answer : (k : ℕ) (g : Group) (q : ℕ) (c : Call) (r s : Rival) → Moves k (c .kind) (target g c) r s → Beside g q r
     → let t = ifDone k (accept g c) (quiet g) in Beside (t .group) (q + rises (g .levels) (t .group .levels)) s
@@ -115,11 +117,11 @@ beside-course q h e (next {g} {p} {r} {s} {c} m k) b =
 
 -- ---- our own course is that of a rival
 
--- a write, store or scrub that is not refused is open to us
-our-raise : (g : Group) (q : ℕ) (c : Call) → IsGroup g → writes (c .kind) ≡ true → numberOf (checks g c) ≡ 0
-    → Raised (target g c) (standing g q) (standing (pushed true g (target g c) .group) (q + rises (g .levels) (pushed true g (target g c) .group .levels)))
+-- a call that raises cells and is not refused is open to us
+our-raise : (mark : Bool) (g : Group) (q : ℕ) (c : Call) → IsGroup g → writes (c .kind) ≡ true → numberOf (checks g c) ≡ 0
+    → Raised (target g c) (standing g q) (standing (pushed mark g (target g c) .group) (q + rises (g .levels) (pushed mark g (target g c) .group .levels)))
 unfolding pushed raised
-our-raise g q c h w e =
+our-raise mark g q c h w e =
     let t = done-checks g c w e in
     record {
       no-lower = raise-above 1 (target g c) (g .levels);
@@ -129,17 +131,19 @@ our-raise g q c h w e =
       spent = refl;
     }
 
-our-accept : (g : Group) (q : ℕ) (o : Order) (k : Kind) → IsGroup g → numberOf (checks g (record { kind = k; target = o })) ≡ 0
-    → Follows k (targetBy g o k) (standing g q) (standing (acceptBy g o k .group) (q + rises (g .levels) (acceptBy g o k .group .levels)))
+our-accept : (g : Group) (q : ℕ) (a : Ranked) (k : Kind) → IsGroup g → numberOf (checks g (record { kind = k; target = a })) ≡ 0
+    → Follows k (targetBy g a k) (standing g q) (standing (acceptBy g a k .group) (q + rises (g .levels) (acceptBy g a k .group .levels)))
 unfolding Follows
-our-accept g q o Write h e = our-raise g q (record { kind = Write; target = o }) h refl e
-our-accept g q o (WriteInto room) h e = our-raise g q (record { kind = WriteInto room; target = o }) h refl e
-our-accept g q o (Store s) h e = our-raise g q (record { kind = Store s; target = o }) h refl e
-our-accept g q o Scrub h e = our-raise g q (record { kind = Scrub; target = o }) h refl e
-our-accept g q o (Leak c d) h e = rw (kept-rises g o (Leak c d) refl, add-zero)
-our-accept g q o (Wear c cap) h e = rw (kept-rises g o (Wear c cap) refl, add-zero)
-our-accept g q o Erase h e = rw (kept-rises g o Erase refl, add-zero)
-our-accept g q o Read h e = rw (kept-rises g o Read refl, add-zero)
+our-accept g q a Write h e = our-raise true g q (record { kind = Write; target = a }) h refl e
+our-accept g q a (WriteInto room) h e = our-raise true g q (record { kind = WriteInto room; target = a }) h refl e
+our-accept g q a WriteShared h e = our-raise false g q (record { kind = WriteShared; target = a }) h refl e
+our-accept g q a (WriteSharedInto room) h e = our-raise false g q (record { kind = WriteSharedInto room; target = a }) h refl e
+our-accept g q a (Store s) h e = our-raise true g q (record { kind = Store s; target = a }) h refl e
+our-accept g q a Scrub h e = our-raise true g q (record { kind = Scrub; target = a }) h refl e
+our-accept g q a (Leak c d) h e = rw (kept-rises g a (Leak c d) refl, add-zero)
+our-accept g q a (Wear c cap) h e = rw (kept-rises g a (Wear c cap) refl, add-zero)
+our-accept g q a Erase h e = rw (kept-rises g a Erase refl, add-zero)
+our-accept g q a Read h e = rw (kept-rises g a Read refl, add-zero)
 
 our-answer : (k : ℕ) (g : Group) (q : ℕ) (c : Call) → IsGroup g → numberOf (checks g c) ≡ k
     → let t = ifDone k (accept g c) (quiet g) in
@@ -193,7 +197,7 @@ module _ (g : Group) (h : IsGroup g) (cs : List Call) where
   done-open : (c : Call) → writes (c .kind) ≡ true → numberOf (checks now c) ≡ 0 → Open c
   unfolding Raisable entrant
   done-open c w e =
-      (own applyOf g 0 cs, our-course g 0 cs h, _, rw (← our-end g 0 cs h) at (our-raise now (0 + spent) c (group-after g cs h) w e))
+      (own applyOf g 0 cs, our-course g 0 cs h, _, rw (← our-end g 0 cs h) at (our-raise true now (0 + spent) c (group-after g cs h) w e))
 
   not-open : (c : Call) → writes (c .kind) ≡ true → numberOf (earlierChecks now c) ≡ 0 → applyOf now c .number ≡ 8 → ¬ (Open c)
   not-open c w e is-worn k = absurd (omega (arith, is-worn, apply-number now c, done-pushes now c w e (open-passes c k)))

@@ -20,6 +20,7 @@ use Rattle.group.proofs.Levels.{at-most-antisym}
 use Rattle.group.proofs.Checks.{checked-size, cell-true}
 use Rattle.engine.specs.ReadStore.{placeRead}
 use Rattle.plain_machine.specs.declared.Kind.the-variants.{Leak, Read}
+use Rattle.sharing.specs.Shared.{plainTarget}
 use Rattle.plain_machine.specs.declared.Call.{Call}
 use Rattle.plain_machine.specs.Machine.{target, checks, applyOf}
 use Rattle.plain_machine.proofs.Machine.{apply-number}
@@ -29,10 +30,10 @@ use Rattle.rivals.proofs.Demand3.{plain-step, our-end, side, group-afte
 -- ---- a record to which, at every call, the same check applies first as to a group has that group's n and mark
 
 abbrev leaking : ℕ → Call
-leaking k = record { kind = Leak (record { 0 = k }) 0; target = noOrder }
+leaking k = record { kind = Leak (record { 0 = k }) 0; target = plainTarget noOrder }
 
 abbrev reading : Call
-reading = record { kind = Read; target = noOrder }
+reading = record { kind = Read; target = plainTarget noOrder }
 
 leak-held : (g : Group) (k : ℕ) → numberOf (checks g (leaking k)) ≡ 0 → (numberOf (groupChecks g) ≡ 0) × (k ≤ g .n)
 leak-held g k e =

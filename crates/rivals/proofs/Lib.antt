@@ -7,3 +7,4 @@ pub mod Determined
 pub mod Valid
 pub mod Refuted
 pub mod Starred
+pub mod SharedCases

@@ -1,11 +1,11 @@
 -- Wrong machines that fail demand 3. Each is caught on a group of three cells, just opened: one by a read, which the plain machine refuses 6, the
 -- others by the order [1, 2, 3]: at once, at that order again or [1, 3, 2] after it, at a read after it, after a cell is worn, or into a list of one
--- place, which the plain machine refuses 10. At a write of [1, 2, 3] by value the plain machine goes to levels 2, 1, 0 for 3 pulses, and that course is
+-- place, which the plain machine refuses 10; and two by a shared write of cells 1 and 2 above cell 3. At a write of [1, 2, 3] by value the plain machine goes to levels 2, 1, 0 for 3 pulses, and that course is
 -- one of the rivals of every machine that accepts that write.
 -- Assumes nothing.
 use Prim.Native.Nat.{ℕ, suc, _+_, _<_}
 use mathlib.Core.Path.{_≡_, refl, sym, _∙_}
-use mathlib.Core.Bool.{false, cond, _&&_}
+use mathlib.Core.Bool.{true, false, cond, _&&_}
 use mathlib.Core.List.{List, [], _∷_, flatten}
 use native.Mathlib.Omega.{arith}
 use lib.Dec.{lit<, lit≤, eqb, leb, ltb}
@@ -16,7 +16,7 @@ use Rattle.order.specs.Cells.{tabulate, eachOnce, isOrder, allZero, isListing}
 use Rattle.order.specs.Order.{cellNumbers, isOrderOf, orderRecord}
 use Rattle.coordinates.specs.Coordinates.{coordinateOf, coordinatesTo, weight}
 use Rattle.decoder.specs.Decoding.{leaves, isCodeword, firstBelow, correction}
-use Rattle.group.specs.Levels.{level, put, AtMost, atMost, rises}
+use Rattle.group.specs.Levels.{level, put, AtMost, atMost, sum, rises}
 use Rattle.push_up.specs.PushUp.{singles, top, floorOver, Reach, Shows, lift, raise, pushOf, rankPushes, pushes, pulsesIn}
 use Rattle.group.specs.declared.Group.{Group}
 use Rattle.group.specs.Record.{allAtMost, isRow, opened, changed, withLevels}
@@ -26,7 +26,8 @@ use Rattle.sensing.specs.Sense.{standsAbove, insert, sorted, sensed}
 use Rattle.engine.specs.ReadStore.{readOf}
 use Rattle.group.proofs.Levels.{at-most-true, at-most-level}
 use Rattle.plain_machine.specs.declared.Kind.{Kind}
-use Rattle.plain_machine.specs.declared.Kind.the-variants.{Write, WriteInto, Store, Scrub, Leak, Wear, Erase, Read}
+use Rattle.plain_machine.specs.declared.Kind.the-variants.{Write, WriteInto, WriteShared, WriteSharedInto, Store, Scrub, Leak, Wear, Erase, Read}
+use Rattle.sharing.specs.Shared.{eachFilled, isSizes, byNumber, ranksOf, writeSharedOf, plainTarget}
 use Rattle.plain_machine.specs.declared.Call.{Call}
 use Rattle.engine.specs.Scrub.{Step, quiet}
 use Rattle.plain_machine.specs.Machine.{writes, target, applyOf}
@@ -41,10 +42,10 @@ abbrev order : Order
 order = orderRecord (1 ∷ 2 ∷ 3 ∷ [])
 
 abbrev call : Call
-call = record { kind = Write; target = order }
+call = record { kind = Write; target = plainTarget order }
 
 abbrev read-call : Call
-read-call = record { kind = Read; target = order }
+read-call = record { kind = Read; target = plainTarget order }
 
 -- where the plain machine goes, and its course
 abbrev least : List ℕ
@@ -109,7 +110,7 @@ plain-answer : let t = applyOf start call in (t .number ≡ 0) × (t .value .gro
 unfolding applyOf writeOf answer pushed pushes rankPushes pushOf pulsesIn numberOf isRow allAtMost orderRecord cellNumbers isOrderOf isListing isOrder eachOnce allZero fits raised raise lift singles floorOver top level put atMost
 plain-answer = (refl, refl, refl)
 
--- the plain machine, but for the writes, stores and scrubs that it accepts
+-- the plain machine, but for the calls that raise cells and that it accepts
 abbrev otherwise : (Group → Call → Told Step → Told Step) → Machine
 otherwise wrong g c = let t = applyOf g c in cond (writes (c .kind) && eqb (t .number) 0) (wrong g c t) t
 
@@ -171,7 +172,7 @@ pub climber : Machine
 climber = otherwise (levelled (λ g c. toTheTop (flatten (target g c)) (g .levels)))
 
 abbrev second-call : Call
-second-call = record { kind = Write; target = orderRecord (1 ∷ 3 ∷ 2 ∷ []) }
+second-call = record { kind = Write; target = plainTarget (orderRecord (1 ∷ 3 ∷ 2 ∷ [])) }
 
 abbrev second-course : Rival
 second-course = record { levels = 3 ∷ 1 ∷ 2 ∷ replicate 9 0; caps = start .caps; pulses = 6 }
@@ -222,10 +223,46 @@ pub forgetter-refuted : ¬ (MeetsDemand3 forgetter)
 unfolding forgetter after plain plainAfter readOf sensed sorted insert standsAbove correction firstBelow isCodeword leaves weight coordinatesTo coordinateOf applyOf writeOf answer pushed rises numberOf isRow allAtMost orderRecord cellNumbers isOrderOf isListing isOrder eachOnce allZero fits raised raise lift singles floorOver top level put atMost
 forgetter-refuted = fails forgetter (call ∷ []) (λ d. let e : _≡_ {A = ℕ} 6 0 = d .handed read-call in omega arith)
 
+-- two that go wrong at a shared write, here of cells 1 and 2 above cell 3: one sets the mark, so that a read finds a symbol where the plain machine is blank; one
+-- shows the list as an order, cell 1 above cell 2
+abbrev shared-call : Call
+shared-call = record { kind = WriteShared; target = record { count = 2; sizes = 2 ∷ 1 ∷ replicate 10 0; cells = order } }
+
+pub keeper : Machine
+keeper = otherwise (λ g c. altered (λ h. changed h (h .levels) (h .caps) true) (λ k. k))
+
+pub keeper-refuted : ¬ (MeetsDemand3 keeper)
+unfolding keeper after plain plainAfter readOf sensed sorted insert standsAbove correction firstBelow isCodeword leaves weight coordinatesTo coordinateOf applyOf writeSharedOf sum eachFilled isSizes byNumber ranksOf answer pushed rises numberOf isRow allAtMost orderRecord cellNumbers isOrderOf isListing isOrder eachOnce allZero fits raised raise lift floorOver top level put atMost
+keeper-refuted = fails keeper (shared-call ∷ []) (λ d. let e : _≡_ {A = ℕ} 0 6 = d .handed read-call in omega arith)
+
+unfoldable pub stacker : Machine
+stacker = otherwise (levelled (λ g c. raise 1 (singles (flatten (target g c))) (g .levels)))
+
+abbrev shared-course : Rival
+shared-course = record { levels = 1 ∷ 1 ∷ 0 ∷ replicate 9 0; caps = start .caps; pulses = 2 }
+
+pub stacker-refuted : ¬ (MeetsDemand3 stacker)
+unfolding stacker flatten latest after plainAfter entrant Moves Follows applyOf writeSharedOf sum eachFilled isSizes byNumber ranksOf answer pushed rises numberOf isRow allAtMost orderRecord cellNumbers isOrderOf isListing isOrder eachOnce allZero fits raised raise lift singles floorOver top level put atMost Shows Reach
+stacker-refuted =
+    fails stacker (shared-call ∷ [])
+    (λ d.
+    let shown : Raised (target start shared-call) (entrant start) shared-course =
+    record {
+      no-lower = at-most-true _ _ refl;
+      shows = ((lit≤ tt, (lit≤ tt, tt)), ((lit≤ tt, tt), tt));
+      within = at-most-true _ _ refl;
+      same-caps = refl;
+      spent = refl;
+    } in
+    let high = at-most-level 2 (d .lowest (shared-course ∷ []) (next shown rest)) in
+    omega arith)
+
 -- one that takes a lent list of any room
 byValue : Kind → Kind
 byValue Write = Write
 byValue (WriteInto room) = Write
+byValue WriteShared = WriteShared
+byValue (WriteSharedInto room) = WriteShared
 byValue (Store s) = Store s
 byValue Scrub = Scrub
 byValue (Leak c d) = Leak c d
@@ -237,7 +274,7 @@ pub crammer : Machine
 crammer g c = applyOf g (record { kind = byValue (c .kind); target = c .target })
 
 abbrev short-call : Call
-short-call = record { kind = WriteInto 1; target = order }
+short-call = record { kind = WriteInto 1; target = plainTarget order }
 
 pub crammer-refuted : ¬ (MeetsDemand3 crammer)
 unfolding crammer byValue after plain numberOf isRow allAtMost
@@ -249,7 +286,7 @@ unfoldable pub hasty : Machine
 hasty g c = cond (writes (c .kind) && leb (level (g .caps) 1) (level (g .levels) 1)) (record { number = 8; value = quiet g }) (applyOf g c)
 
 abbrev worn-call : Call
-worn-call = record { kind = Wear (record { 0 = 1 }) 2; target = order }
+worn-call = record { kind = Wear (record { 0 = 1 }) 2; target = plainTarget order }
 
 abbrev worn-course : Rival
 worn-course = record { levels = least; caps = put (start .caps) 1 2; pulses = 3 }
@@ -281,7 +318,7 @@ lax g c =
     cond (writes (c .kind) && eqb (t .number) 8 && leb (level new first) (level (g .caps) first)) (record { number = 0; value = accept g c }) t
 
 abbrev second-worn : Call
-second-worn = record { kind = Wear (record { 0 = 2 }) 0; target = order }
+second-worn = record { kind = Wear (record { 0 = 2 }) 0; target = plainTarget order }
 
 -- with cell 2 worn to 0 it takes the order [1, 2, 3], whose top cell has room
 pub lax-refuted : ¬ (MeetsDemand3 lax)

@@ -1,20 +1,21 @@
 -- Demand 3 speaks of something: from a group that was opened or taken over no list of calls meets the numbers 1 and 2. Of an opened group, for every n from 3
--- to 12, a first write is done, whatever its order (into a lent list where that has n - 1 places or more, and is refused 10 where it has fewer), and a first
--- store, whatever its symbol (there is one: `some-symbol`, code/Laws), and a scrub that comes next; and worn is given too. Any group can be taken over as it
--- stands, but for the mark: `taken-as-it-stands` (take_over/Taken).
+-- to 12, a first write is done, whatever its order, a first shared write, whatever its target (into a lent list where that has n - 1 places or more, and refused 10
+-- where it has fewer), and a first store, whatever its symbol (there is one: `some-symbol`, code/Laws), and a scrub that comes next; and worn is given too. Any group
+-- can be taken over as it stands, but for the mark: `taken-as-it-stands` (take_over/Taken).
 -- Assumes nothing.
-use Prim.Native.Nat.{ℕ, _-_, _<_, _≤_}
+use Prim.Native.Nat.{ℕ, zero, suc, _-_, _<_, _≤_, zero-le}
 use mathlib.Core.Path.{_≡_, refl, _∙_}
 use mathlib.Core.Logic.{_≢_, _⊎_, inl, inr, ⊎-elim}
 use mathlib.Core.Bool.{Bool, true, false}
 use mathlib.Core.List.{List, [], _∷_, _++_}
 use native.Mathlib.Omega.{arith}
 use lib.Dec.{lit<}
+use lib.ListN.{length, getD, replicate, length-take}
 use borrow.Author.Tests.{lt-ltb, le-leb, lt-leb}
 use Rattle.code.specs.Symbols.{wordOf}
 use Rattle.order.specs.declared.Order.{Order}
 use Rattle.order.specs.declared.Refusal.{Refusal}
-use Rattle.order.specs.declared.Refusal.the-variants.{NoOrder, ListShort}
+use Rattle.order.specs.declared.Refusal.the-variants.{NoOrder, ListShort, RankSizes}
 use Rattle.order.specs.Refusals.{refusalNumber, numberOf, answer, isSize}
 use Rattle.order.specs.Cells.{eachOnce, isOrder, allZero, isListing}
 use Rattle.order.specs.Order.{cellNumbers, listed, isOrderOf, orderRecord, noOrder}
@@ -32,10 +33,17 @@ use Rattle.group.specs.Record.{allAtMost, isRow, groupChecks, opened}
 use Rattle.push_up.specs.WriteAnswer.{raised, fits, pushChecks, writeOf}
 use Rattle.group.specs.Changes.{wearOf}
 use Rattle.push_up.proofs.Minimal.{Each}
+use Rattle.push_up.proofs.FullCaps.{low-fits}
+use Rattle.push_up.proofs.Writes.{push-holds}
 use Rattle.push_up.proofs.Stairs.{stairs, zeros-under, length-stairs, stairs-fit}
 use Rattle.engine.proofs.Scrubs.{store-scrubs}
+use Rattle.sharing.specs.declared.Ranked.{Ranked}
+use Rattle.sharing.specs.Shared.{sizesOf, isSizes, sharedTarget, plainTarget, onesTarget}
+use Rattle.sharing.proofs.Targets.{sizes-true, shared-target}
+use Rattle.sharing.proofs.Loops.{ranks-length}
+use Rattle.sharing.proofs.Ones.{ones-sizes}
 use Rattle.plain_machine.specs.declared.Kind.{Kind}
-use Rattle.plain_machine.specs.declared.Kind.the-variants.{Write, WriteInto, Store, Scrub, Leak, Wear, Erase, Read}
+use Rattle.plain_machine.specs.declared.Kind.the-variants.{Write, WriteInto, WriteShared, WriteSharedInto, Store, Scrub, Leak, Wear, Erase, Read}
 use Rattle.plain_machine.specs.declared.Call.{Call}
 use Rattle.plain_machine.specs.Machine.{applyOf, checksBy, checks}
 use Rattle.rivals.specs.Rivals.{after, Begun}
@@ -58,15 +66,17 @@ module _ (g : Group) (e : numberOf (groupChecks g) ≡ 0) where
   past : (list : List (Bool × Refusal)) → Each (λ (k : Bool × Refusal). 2 < refusalNumber (k .1)) list → Other (numberOf (groupChecks g ++ list))
   past list h = rw (later-decide list (groupChecks g) e) (other-number list h)
 
-  other-by : (o : Order) (k : Kind) → Other (numberOf (checksBy g o k))
-  other-by o Write = past _ (lit< tt, (lit< tt, tt))
-  other-by o (WriteInto room) = past _ (lit< tt, (lit< tt, (lit< tt, tt)))
-  other-by o (Store s) = past _ (lit< tt, (lit< tt, tt))
-  other-by o Scrub = past _ (lit< tt, (lit< tt, (lit< tt, tt)))
-  other-by o (Leak c d) = past _ (lit< tt, tt)
-  other-by o (Wear c cap) = past _ (lit< tt, (lit< tt, tt))
-  other-by o Erase = inl e
-  other-by o Read = past _ (lit< tt, (lit< tt, tt))
+  other-by : (a : Ranked) (k : Kind) → Other (numberOf (checksBy g a k))
+  other-by a Write = past _ (lit< tt, (lit< tt, tt))
+  other-by a (WriteInto room) = past _ (lit< tt, (lit< tt, (lit< tt, tt)))
+  other-by a WriteShared = past _ (lit< tt, (lit< tt, (lit< tt, tt)))
+  other-by a (WriteSharedInto room) = past _ (lit< tt, (lit< tt, (lit< tt, (lit< tt, tt))))
+  other-by a (Store s) = past _ (lit< tt, (lit< tt, tt))
+  other-by a Scrub = past _ (lit< tt, (lit< tt, (lit< tt, tt)))
+  other-by a (Leak c d) = past _ (lit< tt, tt)
+  other-by a (Wear c cap) = past _ (lit< tt, (lit< tt, tt))
+  other-by a Erase = inl e
+  other-by a Read = past _ (lit< tt, (lit< tt, tt))
 
 -- the group after any list of calls passes the checks of a record, and no next call is refused by them
 module _ (g : Group) (b : Begun g) (cs : List Call) where
@@ -93,16 +103,27 @@ opened-passes n size xs t =
 -- ---- first calls
 
 abbrev pub writing : Order → Call
-writing o = record { kind = Write; target = o }
+writing o = record { kind = Write; target = plainTarget o }
 
 abbrev pub writing-into : Order → ℕ → Call
-writing-into o room = record { kind = WriteInto room; target = o }
+writing-into o room = record { kind = WriteInto room; target = plainTarget o }
+
+abbrev pub sharing : Ranked → Call
+sharing t = record { kind = WriteShared; target = t }
+
+abbrev pub sharing-into : Ranked → ℕ → Call
+sharing-into t room = record { kind = WriteSharedInto room; target = t }
 
 abbrev pub storing : ℕ → Call
-storing s = record { kind = Store s; target = noOrder }
+storing s = record { kind = Store s; target = plainTarget noOrder }
 
 abbrev pub scrubbing : Call
-scrubbing = record { kind = Scrub; target = noOrder }
+scrubbing = record { kind = Scrub; target = plainTarget noOrder }
+
+zeros-low : (k i : ℕ) → getD {A = ℕ} (replicate k 0) i 0 ≤ 0
+zeros-low zero i = zero-le
+zeros-low (suc k) zero = zero-le
+zeros-low (suc k) (suc i) = zeros-low k i
 
 module _ (n : ℕ) (size : isSize n ≡ true) where
   -- past the checks of the record
@@ -128,9 +149,41 @@ module _ (n : ℕ) (size : isSize n ≡ true) where
       ∙ later-decide _ (groupChecks (opened n)) (opened-group n size .passes)
       ∙ check-fails ListShort _ (lt-leb (n - 1) room l)
 
-  -- such an order is there: 1 to n
+  pub shared-short-comes : (t : Ranked) (room : ℕ) → room < n - 1 → applyOf (opened n) (sharing-into t room) .number ≡ 10
+  shared-short-comes t room l =
+      apply-number (opened n) (sharing-into t room)
+      ∙ later-decide _ (groupChecks (opened n)) (opened-group n size .passes)
+      ∙ check-fails ListShort _ (lt-leb (n - 1) room l)
+
+  -- a shared write too, whatever its target, in both its forms
+  module _ (t : Ranked) (s : isSizes n t ≡ true) (o : isOrderOf n (t .cells) ≡ true) where
+    shared-passes : numberOf (pushChecks (opened n) (sharedTarget n t)) ≡ 0
+    shared-passes =
+        let g = opened n in
+        let rs = sharedTarget n t in
+        let few : length rs ≤ 12 = omega (arith, ranks-length n (sizesOf t) (listed (t .cells)), length-take (t .count) (t .sizes), sizes-true n t s .few) in
+        let under = rw (opened-group n size .caps) at (zeros-under (g .caps)) in
+        push-holds g rs (low-fits g rs 0 (omega arith) (λ i. zeros-low 12 i) refl under few (shared-target n t s o))
+
+    pub first-shared : applyOf (opened n) (sharing t) .number ≡ 0
+    first-shared =
+        apply-number (opened n) (sharing t)
+        ∙ done-pushes (opened n) (sharing t) refl
+        (later-decide _ (groupChecks (opened n)) (opened-group n size .passes) ∙ check-holds RankSizes _ s ∙ check-holds NoOrder [] o ∙ all-hold) shared-passes
+
+    pub first-shared-into : (room : ℕ) → n - 1 ≤ room → applyOf (opened n) (sharing-into t room) .number ≡ 0
+    first-shared-into room l =
+        apply-number (opened n) (sharing-into t room)
+        ∙ done-pushes (opened n) (sharing-into t room) refl
+        (later-decide _ (groupChecks (opened n)) (opened-group n size .passes) ∙ check-holds ListShort _ (le-leb (n - 1) room l) ∙ check-holds RankSizes _ s ∙ check-holds NoOrder [] o ∙ all-hold)
+        shared-passes
+
+  -- such an order is there: 1 to n, and rank sizes for it, all of them 1
   pub some-order : isOrderOf n (orderRecord (orderFrom (λ i. 0) n)) ≡ true
   some-order = let s = size-true n size in recorded-order n (orderFrom (λ i. 0) n) (order-of-any (λ i. 0) n) (s .0) (s .1)
+
+  pub some-ranks : (o : Order) → isSizes n (onesTarget n o) ≡ true
+  some-ranks o = ones-sizes n o (size-true n size .1)
 
   module _ (s : ℕ) (l : s < K n) where
     word-passes : numberOf (pushChecks (opened n) (singles (wordOf n s))) ≡ 0
@@ -150,7 +203,7 @@ module _ (n : ℕ) (size : isSize n ≡ true) where
 
 -- ---- and worn is given: cell 1 capped at 1 can't stand above cell 2, which stands above cell 3
 
-pub worn-comes : let wearing : Call = record { kind = Wear (record { 0 = 1 }) 1; target = noOrder } in
+pub worn-comes : let wearing : Call = record { kind = Wear (record { 0 = 1 }) 1; target = plainTarget noOrder } in
     applyOf (after applyOf (opened 3) (wearing ∷ [])) (writing (orderRecord (1 ∷ 2 ∷ 3 ∷ []))) .number ≡ 8
 unfolding after applyOf wearOf writeOf answer numberOf isRow allAtMost orderRecord cellNumbers isOrderOf isListing isOrder eachOnce allZero fits raised raise lift singles floorOver top level put atMost
 worn-comes = refl

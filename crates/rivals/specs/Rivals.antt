@@ -1,17 +1,18 @@
 -- Document 01, "The rivals of demand 3", and demand 3: one claim about every list of calls on one group. By document 02, request (e), a list may also
--- begin from a group that was taken over, and rivals then start at its levels.
+-- begin from a group that was taken over, and rivals then start at its levels; by request (g) it may hold shared writes, and a rival must show the same
+-- shared target.
 -- The claim is about any machine that answers calls. That ours meets it is the theorem `demand3-begun` (proofs/Demand3) about `applyOf`, which is
 -- the whole answer of the public function `apply` by its contract. Of a machine's answers it speaks of the number, the pulses and the group: of
 -- the group's levels and caps beside the rivals', and of the whole record by the checks that apply to it at the call that comes next. None
 -- of these is left open along a list (proofs/Determined). The symbol, the verdict and the pushes are fixed by the contracts alone.
--- A list of calls may hold writes into a lent list, of which a call has the room: both `applyOf`'s answer to such a call and, by its contract, that
--- of `push_list::write_into` are made of `writeIntoOf`, and are the same in what the claim speaks of (`into-applied`, plain_machine, proofs/Machine).
--- The lent list is no part of a rival.
+-- A list of calls may hold writes and shared writes into a lent list, of which a call has the room: both `applyOf`'s answer to such a call and, by their
+-- contracts, those of `push_list::write_into` and `push_list::write_shared_into` are made of `writeIntoOf` and `writeSharedIntoOf`, and are the same in what
+-- the claim speaks of (`into-applied`, `shared-into-applied`, plain_machine, proofs/Machine). The lent list is no part of a rival.
 --
 --   Rival               a rival at one moment: levels and caps, as a group has them, and its pulses
 --   standing g q        our group, with q pulses so far, as a rival stands
 --   lowered r ls, capped r cs    the rival with other levels, or other caps
---   Raised t r s        at an accepted write, store or scrub of target t it comes from r to s: it raises any cells by any amounts and lowers
+--   Raised t r s        at an accepted write, shared write, store or scrub of target t it comes from r to s: it raises any cells by any amounts and lowers
 --                       none; then the target shows in its levels, and no level is above its cap; its pulses grow by the sum of these rises
 --   Follows k t r s     what it does at an accepted call of kind k and target t
 --   Moves number k t r s    and at any call: one answered with number 0 was accepted; at any other nothing changes
@@ -42,7 +43,7 @@ use Rattle.push_up.specs.PushUp.{Shows}
 use Rattle.group.specs.Changes.{openOf}
 use Rattle.take_over.specs.TakeOver.{takeOverOf}
 use Rattle.plain_machine.specs.declared.Kind.{Kind}
-use Rattle.plain_machine.specs.declared.Kind.the-variants.{Write, WriteInto, Store, Scrub, Leak, Wear, Erase, Read}
+use Rattle.plain_machine.specs.declared.Kind.the-variants.{Write, WriteInto, WriteShared, WriteSharedInto, Store, Scrub, Leak, Wear, Erase, Read}
 use Rattle.plain_machine.specs.declared.Call.{Call}
 use Rattle.engine.specs.Scrub.{Step}
 use Rattle.plain_machine.specs.Machine.{writes, target, checks, earlierChecks, applyOf}
@@ -71,6 +72,8 @@ pub record Raised (t : List (List ℕ)) (r s : Rival) : Type 0 where
 unfoldable pub Follows : Kind → List (List ℕ) → Rival → Rival → Type 0
 Follows Write t r s = Raised t r s
 Follows (WriteInto room) t r s = Raised t r s
+Follows WriteShared t r s = Raised t r s
+Follows (WriteSharedInto room) t r s = Raised t r s
 Follows (Store symbol) t r s = Raised t r s
 Follows Scrub t r s = Raised t r s
 Follows (Leak c d) t r s = s ≡ lowered r (leaked (c .0) d (r .levels))
@@ -147,7 +150,7 @@ module _ (run : Machine) where
     pub ours : IsRival g cs (own g 0 cs)
     -- and its pulses are exactly what our answers add up to
     pub exact : latest (entrant g) (own g 0 cs) .pulses ≡ pulsesOf g cs
-    -- a write, store or scrub that comes next and passes the earlier checks is refused as worn exactly when no rival so far can be raised to
+    -- a write, shared write, store or scrub that comes next and passes the earlier checks is refused as worn exactly when no rival so far can be raised to
     -- show its target within the caps
     pub worn-exactly : (c : Call) → writes (c .kind) ≡ true → numberOf (earlierChecks (after g cs) c) ≡ 0
         → (run (after g cs) c .number ≡ 8) ↔ (¬ (Raisable g cs (target (plain g g cs) c)))

@@ -6,10 +6,10 @@ use Rattle.compare_cuts.proofs.cases.every_small.Statement.{statement}
 use Rattle.compare_cuts.proofs.cases.every_small.Tie as tie
 
 abbrev Inv-loop : tie.InvT-loop
-Inv-loop t₀ k₀ t k = Unit {0}
+Inv-loop kind ends t₀ k₀ t k = Unit {0}
 
 abbrev μ-loop : tie.MeasureT-loop
-μ-loop t₀ k₀ t k = 20736 - k
+μ-loop kind ends t₀ k₀ t k = 20736 - k
 
 pub every-small-spec : {M : Type 1} → statement M
 every-small-spec =
@@ -19,6 +19,7 @@ every-small-spec =
     μ-loop
     (λ c κs. search needs)
     (λ c. search needs)
+    (λ c κs. search needs)
     (λ c κs. search needs)
     (λ c κs. search needs)
     (λ c κs. search needs)

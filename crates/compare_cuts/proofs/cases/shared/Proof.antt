@@ -1,25 +1,27 @@
--- `compare_calls::lent::same_list` is safe and ends. The measure is what is left of the range.
+-- `compare_cuts::cases::shared` is safe and ends. The measure is what is left of the range.
 -- Assumes nothing.
 use Prim.Native.Nat.{_-_}
 use borrow.Author.Needs.{needs}
-use Rattle.compare_calls.proofs.lent.same_list.Statement.{statement}
-use Rattle.compare_calls.proofs.lent.same_list.Tie as tie
+use Rattle.compare_cuts.proofs.cases.shared.Statement.{statement}
+use Rattle.compare_cuts.proofs.cases.shared.Tie as tie
 
 abbrev Inv-loop : tie.InvT-loop
-Inv-loop b list same₀ i₀ same i = Unit {0}
+Inv-loop t₀ k₀ t k = Unit {0}
 
 abbrev μ-loop : tie.MeasureT-loop
-μ-loop b list same₀ i₀ same i = 12 - i
+μ-loop t₀ k₀ t k = 1000 - k
 
-pub same-list-spec : {M : Type 1} → statement M
-same-list-spec =
+pub shared-spec : {M : Type 1} → statement M
+shared-spec =
     tie.close
     (tie.spec
     Inv-loop
     μ-loop
+    (λ c κs. search needs)
     (λ c. search needs)
     (λ c. search needs)
     (λ c. search needs)
+    (λ c κs. search needs)
     (λ c κs. search needs)
     (λ c κs. search needs)
     (λ c. search needs)

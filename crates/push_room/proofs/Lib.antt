@@ -1,0 +1,3 @@
+pub mod Roomy
+pub mod Answers
+pub mod Row

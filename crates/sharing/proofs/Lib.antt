@@ -1,0 +1,5 @@
+pub mod Targets
+pub mod Loops
+pub mod Ones
+pub mod Row
+pub mod Shown

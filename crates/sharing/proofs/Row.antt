@@ -1,0 +1,11 @@
+-- The checks run in the order of document 01's row, with 18 in its place.
+-- Assumes nothing.
+use mathlib.Core.Path.{_≡_, refl}
+use mathlib.Core.Bool.{true}
+use Rattle.order.specs.Refusals.{checkRow, inRow}
+use Rattle.group.specs.declared.Group.{Group}
+use Rattle.sharing.specs.declared.Ranked.{Ranked}
+use Rattle.sharing.specs.Shared.{sharedChecks}
+
+pub shared-in-row : (g : Group) (t : Ranked) → inRow (sharedChecks g t) checkRow ≡ true
+shared-in-row g t = refl
