@@ -100,23 +100,6 @@ pub fn lists(n: usize, many: usize) -> Tally {
     t
 }
 
-// A group of 3 cells: its levels are three digits of k to base 3, its caps three more to base 4, and its mark what is left.
-fn small(k: usize) -> Group {
-    let mut g = Group {
-        n: 3,
-        levels: [0; 12],
-        caps: [0; 12],
-        written: k / 1728 == 1,
-    };
-    g.levels[0] = sample::narrow(k % 3);
-    g.levels[1] = sample::narrow(k / 3 % 3);
-    g.levels[2] = sample::narrow(k / 9 % 3);
-    g.caps[0] = sample::narrow(k / 27 % 4);
-    g.caps[1] = sample::narrow(k / 108 % 4);
-    g.caps[2] = sample::narrow(k / 432 % 4);
-    g
-}
-
 // Call k on 3 cells: symbols 0 to 2 are stored, then a scrub, a read and an erase; then cells 0 to 4 leak by 1 and are worn to 1;
 // then the six orders are written.
 fn small_kind(k: usize) -> Kind {
@@ -153,7 +136,7 @@ fn small_call(k: usize) -> Call {
 pub fn every_small() -> Tally {
     let mut t = none();
     for k in 0..76032 {
-        t = apply(t, small(k / 22), small_call(k % 22));
+        t = apply(t, sample::small(3, k / 22), small_call(k % 22));
     }
     t
 }

@@ -6,30 +6,6 @@ use comparing::tally::none;
 use group::Group;
 use plain_machine::Call;
 use plain_machine::Kind;
-ghost use Prim.Native.Nat.{_<_};
-
-// Three digits of k, the lowest first.
-fn digits(k: usize, base: usize) -> [u16; 12]
-    requires { ⌜ 0 < base ⌝ }
-{
-    let mut row = [0u16; 12];
-    let mut left = k;
-    for i in 0..3 {
-        row[i] = sample::narrow(left % base);
-        left = left / base;
-    }
-    row
-}
-
-// A group of 3 cells: its levels are three digits of k to base 3, its caps three more to base 4, and its mark what is left.
-fn small(k: usize) -> Group {
-    Group {
-        n: 3,
-        levels: digits(k, 3),
-        caps: digits(k / 27, 4),
-        written: k / 1728 == 1,
-    }
-}
 
 // Every small group, and each of the six orders written to it in this way, in a shared write with ranks that end there (`sample::ranked`).
 pub fn every_small(kind: Kind, ends: usize) -> Tally {
@@ -39,7 +15,7 @@ pub fn every_small(kind: Kind, ends: usize) -> Tally {
             kind,
             target: sample::ranked(sample::order_at(3, k % 6), 3, ends),
         };
-        t = compared(t, small(k / 6), call, call, k);
+        t = compared(t, sample::small(3, k / 6), call, call, k);
     }
     t
 }

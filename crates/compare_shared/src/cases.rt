@@ -11,37 +11,6 @@ use order::Order;
 use sharing::Ranked;
 ghost use Prim.Native.Nat.{_<_};
 
-// The first n digits of k, the lowest first.
-fn digits(n: usize, k: usize, base: usize) -> [u16; 12]
-    requires { ⌜ 0 < base ⌝ }
-{
-    let mut row = [0u16; 12];
-    let mut left = k;
-    for i in 0..12 {
-        if i < n {
-            row[i] = sample::narrow(left % base);
-            left = left / base;
-        }
-    }
-    row
-}
-
-// A group of n cells: of 3 cells every one with levels to 2 and caps to 3, marked or not, when i is 0 to 3,455; of more cells some with levels to 2 and
-// caps to n.
-fn small(n: usize, i: usize) -> Group {
-    let k = if n == 3 {
-        i
-    } else {
-        sample::below(1000000000, n, i)
-    };
-    Group {
-        n,
-        levels: digits(n, k, 3),
-        caps: digits(n, k / 27, n % 13 + 1),
-        written: k / 1728 % 2 == 1,
-    }
-}
-
 // One comparison.
 fn compared(t: Tally, g: Group, target: Ranked) -> Tally {
     same::written(t, sharing::write_shared(g, target), write_shared(g, target))
@@ -56,7 +25,7 @@ pub fn every(n: usize, groups: usize, lists: usize, writes: usize) -> Tally
         let j = k / groups;
         let order = sample::order_at(n, j / lists);
         let target = sample::ranked(order, n, j % lists);
-        t = compared(t, small(n, k % groups), target);
+        t = compared(t, sample::small(n, k % groups), target);
     }
     t
 }

@@ -14,6 +14,7 @@ use order::Order;
 use plain_machine::Call;
 use plain_machine::Kind;
 use sharing::Ranked;
+ghost use Prim.Native.Nat.{_<_};
 
 // The number of orders of n cells.
 const ORDERS: [usize; 13] = [
@@ -64,6 +65,33 @@ fn below16(m: usize, sequence: usize, k: usize) -> u16 {
 
 pub fn narrow(x: usize) -> u16 {
     if x < 65536 { x as u16 } else { 0 }
+}
+
+// The first n digits of k, the lowest first.
+fn digits(n: usize, k: usize, base: usize) -> [u16; 12]
+    requires { ⌜ 0 < base ⌝ }
+{
+    let mut row = [0u16; 12];
+    let mut left = k;
+    for i in 0..12 {
+        if i < n {
+            row[i] = narrow(left % base);
+            left = left / base;
+        }
+    }
+    row
+}
+
+// A small group of n cells: of 3 cells every one with levels to 2 and caps to 3, marked or not, when i is 0 to 3,455; of more cells some with levels to 2
+// and caps to n.
+pub fn small(n: usize, i: usize) -> Group {
+    let k = if n == 3 { i } else { below(1000000000, n, i) };
+    Group {
+        n,
+        levels: digits(n, k, 3),
+        caps: digits(n, k / 27, n % 13 + 1),
+        written: k / 1728 % 2 == 1,
+    }
 }
 
 // Coordinates of n cells, coordinate i at index i.

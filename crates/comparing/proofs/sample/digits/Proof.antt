@@ -1,9 +1,9 @@
--- `compare_shared::cases::digits` is safe and ends. The measure is what is left of the range.
+-- `comparing::sample::digits` is safe and ends. The measure is what is left of the range.
 -- Assumes nothing.
 use Prim.Native.Nat.{_-_}
 use borrow.Author.Needs.{needs}
-use Rattle.compare_shared.proofs.cases.digits.Statement.{statement}
-use Rattle.compare_shared.proofs.cases.digits.Tie as tie
+use Rattle.comparing.proofs.sample.digits.Statement.{statement}
+use Rattle.comparing.proofs.sample.digits.Tie as tie
 
 abbrev Inv-loop : tie.InvT-loop
 Inv-loop n k base row₀ left₀ i₀ row left i = Unit {0}
