@@ -9,7 +9,6 @@ use naive_calls::machine::is_worn;
 use naive_calls::shared::write_shared;
 use order::Order;
 use sharing::Ranked;
-ghost use Prim.Native.Nat.{_<_};
 
 // One comparison.
 fn compared(t: Tally, g: Group, target: Ranked) -> Tally {
@@ -17,10 +16,14 @@ fn compared(t: Tally, g: Group, target: Ranked) -> Tally {
 }
 
 // So many groups of n cells, and to each the targets: each of the lists of sizes with each order.
-pub fn every(n: usize, groups: usize, lists: usize, writes: usize) -> Tally
-    requires { ⌜ (0 < groups) × (0 < lists) ⌝ }
-{
+pub fn every(n: usize, groups: usize, lists: usize, writes: usize) -> Tally {
     let mut t = none();
+    if groups < 1 {
+        return t;
+    }
+    if lists < 1 {
+        return t;
+    }
     for k in 0..writes {
         let j = k / groups;
         let order = sample::order_at(n, j / lists);

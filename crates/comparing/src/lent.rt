@@ -19,7 +19,7 @@ pub struct Lent {
 }
 
 // A write, where the first places of a list are lent, as many as there is room. This and the next alone have a slice of pushes, and are proved by hand.
-pub fn lend(g: Group, target: Order, list: [Push; 12], room: usize) -> Lent
+fn lend(g: Group, target: Order, list: [Push; 12], room: usize) -> Lent
     requires { ⌜ room ≤ 12 ⌝ }
 {
     let mut lent = list;
@@ -28,7 +28,7 @@ pub fn lend(g: Group, target: Order, list: [Push; 12], room: usize) -> Lent
 }
 
 // The same of a shared write.
-pub fn lend_shared(g: Group, target: Ranked, list: [Push; 12], room: usize) -> Lent
+fn lend_shared(g: Group, target: Ranked, list: [Push; 12], room: usize) -> Lent
     requires { ⌜ room ≤ 12 ⌝ }
 {
     let mut lent = list;
@@ -37,7 +37,7 @@ pub fn lend_shared(g: Group, target: Ranked, list: [Push; 12], room: usize) -> L
 }
 
 // What stands in a place of the list before the call: no push is like it, so a place that is touched shows.
-pub fn mark() -> Push {
+fn untouched() -> Push {
     Push {
         cell: Cell(99),
         start: 9999,
@@ -53,7 +53,7 @@ fn due(b: Answer, i: usize) -> Push {
             return pushes[i];
         }
     }
-    mark()
+    untouched()
 }
 
 fn same_list(list: [Push; 12], b: Answer) -> bool {
@@ -67,7 +67,7 @@ fn same_list(list: [Push; 12], b: Answer) -> bool {
 }
 
 // Two comparisons: the answer, and the list that was lent.
-pub fn written(t: Tally, lent: Lent, b: Answer) -> Tally {
+fn written(t: Tally, lent: Lent, b: Answer) -> Tally {
     let answer = lent.answer;
     let list = lent.list;
     let outcome = answer.outcome;
@@ -82,4 +82,16 @@ pub fn written(t: Tally, lent: Lent, b: Answer) -> Tally {
         pushes,
     };
     noted(same::written(t, written, b), b.number, same_list(list, b))
+}
+
+// Two comparisons of a write where so many of twelve places are lent: b is the answer due.
+pub fn write(t: Tally, g: Group, target: Order, room: usize, b: Answer) -> Tally {
+    let push = untouched();
+    written(t, lend(g, target, [push; 12], room % 13), b)
+}
+
+// The same of a shared write.
+pub fn write_shared(t: Tally, g: Group, target: Ranked, room: usize, b: Answer) -> Tally {
+    let push = untouched();
+    written(t, lend_shared(g, target, [push; 12], room % 13), b)
 }
