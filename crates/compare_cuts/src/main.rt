@@ -1,13 +1,24 @@
 // Runs the engine and the second implementation, `naive`, on lists that a group is taken over from, and on calls that are cut in the middle of their
-// push programs (document 02, request (e)). Prints for each part what `compare_calls` does; at each stands how many comparisons it must make, and
+// push programs (document 02, requests (e) and (g)). Prints for each part what `compare_calls` does; at each stands how many comparisons it must make, and
 // which numbers must come.
 mod cases;
 mod cuts;
 mod take_overs;
 
 use comparing::report;
+use comparing::report::Report;
 use comparing::report::part;
 use plain_machine::Kind;
+
+// Every small shared write with these sizes, a digit a rank, whose ranks end there (`sample::ranked`).
+fn shared(r: Report, sizes: usize, ends: usize) -> Report {
+    part(
+        r,
+        b"every cut of every small shared write, sizes ",
+        sizes,
+        cases::every_small(Kind::WriteShared, ends),
+    )
+}
 
 fn main() {
     let mut r = report::empty();
@@ -25,30 +36,10 @@ fn main() {
     );
     // The same as shared writes (document 02, request (g)) with each list of sizes: 8,748, 5,064, 4,584 and 2,664 are accepted, with 8,748, 13,632, 14,808 and
     // 11,160 cuts.
-    r = part(
-        r,
-        b"every cut of every small shared write, sizes ",
-        3,
-        cases::every_small(Kind::WriteShared, 0),
-    );
-    r = part(
-        r,
-        b"every cut of every small shared write, sizes ",
-        12,
-        cases::every_small(Kind::WriteShared, 1),
-    );
-    r = part(
-        r,
-        b"every cut of every small shared write, sizes ",
-        21,
-        cases::every_small(Kind::WriteShared, 2),
-    );
-    r = part(
-        r,
-        b"every cut of every small shared write, sizes ",
-        111,
-        cases::every_small(Kind::WriteShared, 3),
-    );
+    r = shared(r, 3, 0);
+    r = shared(r, 12, 1);
+    r = shared(r, 21, 2);
+    r = shared(r, 111, 3);
     // 3,200 calls, of which 119 are refused 4, 32 refused 5, 105 refused 6, 291 refused 7 and 353 refused 8; the others have 105,813 cuts that are tried, 8
     // comparisons at each, all done.
     r = part(r, b"cuts of sampled calls, n = 3 to ", 12, cases::sampled());

@@ -208,7 +208,7 @@ fn is_written(a: Written, b: Answer) -> bool {
     groups(group, other)
 }
 
-// The answer to a write or a store.
+// The answer to a write, a shared write or a store.
 pub fn written(t: Tally, a: Written, b: Answer) -> Tally {
     noted(t, b.number, is_written(a, b))
 }

@@ -1,4 +1,4 @@
-// The calls on symbols, groups, runs of cells and pages, by the definitions of document 01 and of requests (a) to (e) and (g): the rest of
+// The calls on symbols, groups, shared targets, runs of cells, pages and cuts, by the definitions of document 01 and of requests (a) to (e) and (g): the rest of
 // the second implementation, `naive`, and proved safe and ending like it.
 pub mod cuts;
 pub mod machine;

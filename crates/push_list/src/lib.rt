@@ -60,6 +60,7 @@ fn decide(g: Group, target: Order, room: usize) -> Plan
     plan_of(push_room::write_with_room(g, target, room))
 }
 
+// The same of a shared write.
 fn decide_shared(g: Group, target: Ranked, room: usize) -> Plan
     ensures { λ r. ⌜ toldPlan r ≡ writeSharedIntoOf g target room ⌝ }
 {

@@ -1,5 +1,6 @@
 -- Document 01, "The plain machine": minimal push-up (SD 000) and its push program; document 02, request (b): the start of a push, and the pulses; request (g):
--- several cells on one rank (SD 001). A target lists the cells of each rank, highest rank first. An order is the target of one cell a rank. The gap between ranks is 1.
+-- several cells on one rank (SD 001). A target lists the cells of each rank, highest rank first. An order is the target of one cell a rank. The gap between ranks is a
+-- parameter here; in every call it is 1.
 --
 --   singles xs          the target that is an order: the cells of each rank, one a rank
 --   top r ls            the highest level of the cells r of a rank

@@ -28,7 +28,7 @@ use Rattle.push_up.proofs.Pushes.{cellsAbove, few-pushes}
 use Rattle.push_up.proofs.OneMore.{rank-opened, cell-up, cellsOn, bounded}
 use Rattle.sharing.specs.declared.Ranked.{Ranked}
 use Rattle.sharing.specs.Shared.{sizesOf, eachFilled, isSizes, isListed, byNumber, ranksOf}
-use Rattle.sharing.specs.Steps.{isPlace, part, Marks, rankUp, Roomy}
+use Rattle.sharing.specs.Steps.{isPlace, part, Flags, rankUp, PushesFit}
 use Rattle.sharing.proofs.Targets.{sizes-true, number-none, number-in, number-out, number-length, listed-or-not, apart-to, ranks-apart, ranks-above}
 
 -- ---- the places for rank sizes
@@ -87,8 +87,8 @@ unfolding level
 level-next ls c = let e : suc c - 1 ≡ c = omega arith in rw e
 
 -- one cell more is marked
-pub marks-more : (on r : List ℕ) (x : ℕ) → 1 ≤ x → x - 1 < length on → Marks on r → Marks (put on x 1) (x ∷ r)
-marks-more on r x low inside marks c =
+pub flags-more : (on r : List ℕ) (x : ℕ) → 1 ≤ x → x - 1 < length on → Flags on r → Flags (put on x 1) (x ∷ r)
+flags-more on r x low inside marks c =
     ⊎-elim
     (λ t.
     let same : level (put on x 1) (suc c) ≡ 1 = ap (level (put on x 1)) (sym (t .0)) ∙ level-put on x 1 inside in
@@ -98,8 +98,8 @@ marks-more on r x low inside marks c =
     rw (ne-eqb (suc c) x (λ e. t .0 (sym e)), zero-add) (sym (level-next (put on x 1) c) ∙ kept ∙ level-next on c ∙ marks c))
     (eq-cases x (suc c))
 
-pub marks-none : (on xs : List ℕ) (i : ℕ) → ((c : ℕ) → getD on c 0 ≡ 0) → Marks on (part i i xs)
-marks-none on xs i zeros c = let e : i - i ≡ 0 = omega arith in rw e (zeros c)
+pub flags-none : (on xs : List ℕ) (i : ℕ) → ((c : ℕ) → getD on c 0 ≡ 0) → Flags on (part i i xs)
+flags-none on xs i zeros c = let e : i - i ≡ 0 = omega arith in rw e (zeros c)
 
 -- the list from one place before
 pub part-down : (first end : ℕ) (xs : List ℕ) → 0 < first → first ≤ end → end ≤ length xs → part (first - 1) end xs ≡ getD xs (first - 1) 0 ∷ part first end xs
@@ -119,7 +119,7 @@ pub record Above (n : ℕ) (r : List ℕ) (rs : List (List ℕ)) (old : List ℕ
   pub apart : (c : ℕ) → c ≤ n → Apart 12 (byNumber c r ∷ rs)
   pub few : (c : ℕ) → isListed (suc c) r ≡ true → cellsAbove (byNumber c r ∷ rs) < 11
 
-module _ {n : ℕ} {r : List ℕ} {rs : List (List ℕ)} {old : List ℕ} (a : Above n r rs old) (on : List ℕ) (marks : Marks on r) where
+module _ {n : ℕ} {r : List ℕ} {rs : List (List ℕ)} {old : List ℕ} (a : Above n r rs old) (on : List ℕ) (marks : Flags on r) where
   abbrev below : PushUp
   below = pushUpTo 1 rs old
 
@@ -147,9 +147,9 @@ module _ {n : ℕ} {r : List ℕ} {rs : List (List ℕ)} {old : List ℕ} (a : A
       (λ e. rw (unmarked c e, number-out c r e) (rank-up c (omega arith)))
       (listed-or-not (suc c) r)
 
-  pub rank-roomy : Roomy n on old below
+  pub rank-fits : PushesFit n on old below
   unfolding pushUpTo
-  rank-roomy c l e =
+  rank-fits c l e =
       let listed : isListed (suc c) r ≡ true = ⊎-elim (λ t. t) (λ t. absurd (omega (arith, unmarked c t))) (listed-or-not (suc c) r) in
       rw (rank-up c (omega arith))
       (bounded 1 (omega arith) old (a .low) (byNumber c r ∷ rs) (omega (arith, a .ranks)) (omega (arith, a .cells, number-length c r)) .pulses, short c listed)
@@ -295,9 +295,9 @@ module _ {n : ℕ} {ss xs old : List ℕ} {p : PushUp} {k end : ℕ} (r : Raised
       let a = next-above in
       rw (r .sofar) (bounded 1 (omega arith) old (b .low) lower (omega (arith, a .ranks)) (omega (arith, a .cells)) .floor)
 
-  module _ (on : List ℕ) (marks : Marks on (part first end xs)) where
-    pub next-roomy : Roomy n on old p
-    next-roomy = rw (r .sofar) (rank-roomy next-above on marks)
+  module _ (on : List ℕ) (marks : Flags on (part first end xs)) where
+    pub next-fits : PushesFit n on old p
+    next-fits = rw (r .sofar) (rank-fits next-above on marks)
 
     pub raised-more : {q : PushUp} → q ≡ rankUp n on old p → RaisedFrom n ss xs old q (k - 1) first
     unfolding ranksOf

@@ -1,6 +1,7 @@
 // The shared write (document 02, request (g)): minimal push-up to a target with several cells on one rank, with its push program. It takes any record and any
 // target and answers them by one equation with a definition of specs/, over that of `push_up`. Proved besides: with all sizes 1 it answers as
-// `writing::write` does, mark aside (proofs/Ones).
+// `writing::write` does, mark aside (proofs/Ones); each rank has as many cells as its size says, and the target shows exactly when every cell of a rank is
+// strictly above every cell of the next (proofs/Shown).
 use group::Group;
 use order::Cell;
 use order::Order;
@@ -18,7 +19,7 @@ ghost use Rattle.group.specs.Record.{allAtMost};
 ghost use Rattle.push_up.specs.WriteAnswer.{toldWritten};
 ghost use Rattle.push_up.specs.Steps.{pushUpTo, cellUp};
 ghost use Rattle.sharing.specs.Shared.{isSizes, sharedTarget, writeSharedOf, plainTarget};
-ghost use Rattle.sharing.specs.Steps.{isPlace, part, Marks, rankUp, Roomy};
+ghost use Rattle.sharing.specs.Steps.{isPlace, part, Flags, rankUp, PushesFit};
 
 // A target with several cells on one rank: how many ranks, how many cells each of them has, the highest rank first, and the cells by rank. Places past the
 // last rank hold 0.
@@ -28,7 +29,7 @@ pub struct Ranked {
     pub cells: Order,
 }
 
-// The record of a target that is an order: no rank sizes.
+// The record of a target that is an order, without rank sizes: for a call of the machine that is no shared write. A shared write refuses it by 18.
 pub fn plain_target(cells: Order) -> Ranked
     ensures { λ r. ⌜ r ≡ plainTarget cells ⌝ }
 {
@@ -39,7 +40,7 @@ pub fn plain_target(cells: Order) -> Ranked
     }
 }
 
-// Minimal push-up to such a target. The mark is cleared.
+// Minimal push-up to such a target. Checked are 1, 2, 18, 4 and 8, in this order; a refusal leaves the group, its mark included. Accepted, the mark is cleared.
 pub fn write_shared(g: Group, target: Ranked) -> Written
     ensures { λ r. ⌜ toldWritten r ≡ writeSharedOf g target ⌝ }
 {
@@ -136,7 +137,7 @@ fn raise_ranks(target: Ranked, old: [u16; 12]) -> PushUp
 // Which cells are listed from one place of an order up to another: 1 at the index of each of these.
 fn on_rank(cells: Order, first: usize, end: usize) -> [u8; 12]
     requires { ⌜ (isOrder (cells .len) (listed cells) ≡ true) × (cells .len ≤ 12) × (first ≤ end) × (end ≤ cells .len) ⌝ }
-    ensures { λ r. ⌜ Marks r (part first end (listed cells)) ⌝ }
+    ensures { λ r. ⌜ Flags r (part first end (listed cells)) ⌝ }
 {
     let mut on = [0; 12];
     let mut i = end;
@@ -150,11 +151,12 @@ fn on_rank(cells: Order, first: usize, end: usize) -> [u8; 12]
 
 // The cells of one rank more, met in rising number.
 fn raise_rank(p: PushUp, old: [u16; 12], on: [u8; 12], n: usize) -> PushUp
-    requires { ⌜ (n ≤ 12) × (allAtMost 4095 old ≡ true) × (p .floor ≤ 5000) × Roomy n on old p ⌝ }
+    requires { ⌜ (n ≤ 12) × (allAtMost 4095 old ≡ true) × (p .floor ≤ 5000) × PushesFit n on old p ⌝ }
     ensures { λ r. ⌜ r ≡ rankUp n on old p ⌝ }
 {
     let floor = p.floor;
     let mut up = p;
+    // one above a rank on which no cell stands yet
     up.floor = 1;
     let mut c = 0;
     while c < n {

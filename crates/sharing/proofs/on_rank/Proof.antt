@@ -11,8 +11,8 @@ use Rattle.order.specs.Order.{cellNumbers, listed}
 use Rattle.order.proofs.Cells.{order-true, order-range}
 use Rattle.order.proofs.Numbers.{place-at}
 use Rattle.group.specs.Levels.{put}
-use Rattle.sharing.specs.Steps.{part, Marks}
-use Rattle.sharing.proofs.Loops.{marks-none, marks-more, part-down}
+use Rattle.sharing.specs.Steps.{part, Flags}
+use Rattle.sharing.proofs.Loops.{flags-none, flags-more, part-down}
 use Rattle.sharing.proofs.on_rank.Statement.{statement}
 use Rattle.sharing.proofs.on_rank.Tie as tie
 
@@ -22,13 +22,13 @@ zeros (suc n) zero = refl
 zeros (suc n) (suc c) = zeros n c
 
 abbrev Inv-loop : tie.InvT-loop
-Inv-loop first end cells on₀ i₀ on i = (first ≤ i) × (i ≤ end) × Marks on (part i end (listed cells)) × (length on ≡ 12)
+Inv-loop first end cells on₀ i₀ on i = (first ≤ i) × (i ≤ end) × Flags on (part i end (listed cells)) × (length on ≡ 12)
 
 abbrev μ-loop : tie.MeasureT-loop
 μ-loop first end cells on₀ i₀ on i = i
 
 loop-holds : tie.Need-loop-holds Inv-loop μ-loop
-loop-holds c = (c .pre .2, omega arith, marks-none (replicate 12 0) (listed (c .args .t1)) (c .args .end) (zeros 12), refl)
+loop-holds c = (c .pre .2, omega arith, flags-none (replicate 12 0) (listed (c .args .t1)) (c .args .end) (zeros 12), refl)
 
 -- the cell that is met, and those listed from it on
 met : (c : tie.After-number Inv-loop μ-loop) →
@@ -60,7 +60,7 @@ loop-again c =
     let a = at .before .args in
     let inv = at .loop .inv in
     let m = met c in
-    (omega (arith, c .before .before .loop-test .taken), omega (arith, inv .1), rw (m .2) (marks-more (at .loop .on) (part (at .loop .i) (a .end) (listed (a .t1))) (c .number .result) (m .0) (omega (arith, m, inv .3)) (inv .2)), length-set (at .loop .on) (c .number .result - 1) 1 ∙ inv .3)
+    (omega (arith, c .before .before .loop-test .taken), omega (arith, inv .1), rw (m .2) (flags-more (at .loop .on) (part (at .loop .i) (a .end) (listed (a .t1))) (c .number .result) (m .0) (omega (arith, m, inv .3)) (inv .2)), length-set (at .loop .on) (c .number .result - 1) 1 ∙ inv .3)
 
 returns : tie.Need-returns Inv-loop μ-loop
 returns c =

@@ -8,8 +8,8 @@ use lib.ListN.{length, getD}
 use lib.Seq.{getD-take}
 use Rattle.order.specs.Order.{listed}
 use Rattle.sharing.specs.Shared.{sizesOf}
-use Rattle.sharing.specs.Steps.{part, Marks}
-use Rattle.sharing.proofs.Loops.{Base, base-of, sizes-length, RaisedFrom, raised-none, size-fits, end-small, next-floor, next-roomy, raised-more, raised-all}
+use Rattle.sharing.specs.Steps.{part, Flags}
+use Rattle.sharing.proofs.Loops.{Base, base-of, sizes-length, RaisedFrom, raised-none, size-fits, end-small, next-floor, next-fits, raised-more, raised-all}
 use Rattle.sharing.proofs.raise_ranks.Statement.{statement}
 use Rattle.sharing.proofs.raise_ranks.Tie as tie
 
@@ -55,7 +55,7 @@ on-rank-requires c κs =
 marked : (c : tie.After-on-rank Inv-loop μ-loop) →
     let at = c .before .before .before in
     let t = at .before .before .before .args .t1 in
-    Marks (c .on-rank .result) (part (at .loop .end - getD (sizesOf t) (at .loop .k - 1) 0) (at .loop .end) (listed (t .cells)))
+    Flags (c .on-rank .result) (part (at .loop .end - getD (sizesOf t) (at .loop .k - 1) 0) (at .loop .end) (listed (t .cells)))
 marked c = rw (sized (c .before .before .before) (c .before .before .loop-test .taken)) (c .on-rank .ensures)
 
 raise-rank-requires : tie.Need-raise-rank-requires Inv-loop μ-loop
@@ -63,7 +63,7 @@ raise-rank-requires c κs =
     let at = c .before .before .before in
     let pre = at .before .before .before .pre in
     let more = c .before .before .loop-test .taken in
-    (pre .1, pre .3, next-floor (at .loop .inv) more, next-roomy (at .loop .inv) more (c .on-rank .result) (marked c))
+    (pre .1, pre .3, next-floor (at .loop .inv) more, next-fits (at .loop .inv) more (c .on-rank .result) (marked c))
 
 loop-again : tie.Need-loop-again Inv-loop μ-loop
 loop-again c =
