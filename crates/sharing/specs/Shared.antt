@@ -7,7 +7,7 @@
 --   isListed c r        cell c is one of r
 --   byNumber n r        those of the cells 1 to n that are listed in r, the greatest number first. The cell listed last on a rank is pushed first (push_up,
 --                       specs PushUp): so cells within a rank are pushed in rising cell number, whichever way the target lists them
---   ranksOf n ss xs     the cells of each rank: the list xs in parts of the sizes ss
+--   ranksOf n ss xs     the cells of each rank: the list xs in parts of the sizes ss, each by number
 --   sharedTarget n t    the cells of each rank of a target, the highest rank first
 --   rankedChecks n t    the checks of a target for n cells: 18 and directly after it 4
 --   sharedChecks g t    the checks of a shared write: 1, 2, 18, 4, 8
