@@ -128,7 +128,7 @@ fn small_kind(k: usize) -> Kind {
 fn small_call(k: usize) -> Call {
     Call {
         kind: small_kind(k),
-        target: sharing::plain_target(sample::order_at(3, k % 6)),
+        target: plain_machine::plain_target(sample::order_at(3, k % 6)),
     }
 }
 

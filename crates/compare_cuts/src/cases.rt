@@ -24,7 +24,7 @@ pub fn every_small(kind: Kind, ends: usize) -> Tally {
 fn scrubbed(t: Tally, g: Group, s: usize) -> Tally {
     let found = naive_calls::machine::reading(g);
     let word = found.word;
-    let target = sharing::plain_target(word);
+    let target = plain_machine::plain_target(word);
     let call = Call {
         kind: Kind::Scrub,
         target,
@@ -53,7 +53,7 @@ pub fn sampled() -> Tally {
             };
             let call = Call {
                 kind,
-                target: sharing::plain_target(sample::target(n, s)),
+                target: plain_machine::plain_target(sample::target(n, s)),
             };
             t = compared(t, g, call, call, s);
         }

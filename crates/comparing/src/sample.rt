@@ -264,7 +264,7 @@ pub fn target(n: usize, s: usize) -> Order {
 
 // A target of n cells with ranks: one ends after place i + 1 where bit i of a number is set, and the last one after place n.
 pub fn ranked(cells: Order, n: usize, ends: usize) -> Ranked {
-    let mut r = sharing::plain_target(cells);
+    let mut r = plain_machine::plain_target(cells);
     let mut bits = ends;
     for i in 0..12 {
         if i < n {
@@ -298,7 +298,7 @@ fn missized(r: Ranked, s: usize) -> Ranked {
     }
     if way == 6 {
         let cells = r.cells;
-        return sharing::plain_target(cells);
+        return plain_machine::plain_target(cells);
     }
     if way == 7 {
         let more = put(put(sizes, r.count, 255), add(r.count, 1), 1);

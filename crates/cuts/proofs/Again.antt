@@ -8,7 +8,7 @@ use mathlib.Core.Bool.{Bool, true, false, false≢true}
 use mathlib.Core.List.{List, [], _∷_, _++_, map, flatten}
 use native.Mathlib.Omega.{arith}
 use lib.Dec.{leb, ltb}
-use lib.ListN.{length, take}
+use lib.ListN.{length}
 use borrow.Author.Tests.{lt-ltb}
 use Rattle.order.specs.declared.Order.{Order}
 use Rattle.order.specs.declared.Refusal.{Refusal}
@@ -33,7 +33,6 @@ use Rattle.push_room.specs.Room.{writeIntoOf, writeSharedIntoOf}
 use Rattle.push_list.specs.LentWrite.{listAfter}
 use Rattle.push_room.proofs.Answers.{into-answer, shared-into-answer}
 use Rattle.push_list.proofs.Written.{list-counted}
-use Rattle.take_over.specs.TakeOver.{takeOverOf}
 use Rattle.engine.specs.ReadStore.{readingOf}
 use Rattle.engine.proofs.Scrubs.{symbol-word, symbol-low}
 use Rattle.plain_machine.specs.declared.Kind.{Kind}
@@ -41,7 +40,7 @@ use Rattle.plain_machine.specs.declared.Kind.the-variants.{Write, WriteInto, Wr
 use Rattle.plain_machine.specs.declared.Call.{Call}
 use Rattle.plain_machine.specs.Machine.{writes, marks, targetBy, target, earlierBy, earlierChecks, applyOf}
 use Rattle.plain_machine.proofs.Machine.{apply-number, apply-value, done-checks, checked-group, target-order}
-use Rattle.cuts.specs.Cuts.{Cut, IsCut, levelsAt, pulsesAt, IsWriteOf, Retry, programOf, takenAt, AreRetries, AllTaken, lastAnswer, pulsesBefore, Repaired}
+use Rattle.cuts.specs.Cuts.{Cut, IsCut, pulsesAt, takenFrom, IsWriteOf, Retry, programOf, takenAt, AreRetries, AllTaken, lastAnswer, pulsesBefore, Repaired}
 use Rattle.cuts.proofs.Repairs.{takenGroup, cut-taken, taken-group, again-accepted, cuts-repaired}
 
 -- a call that names its target, which then does not depend on what is read: a write, a shared write or a store
@@ -195,9 +194,6 @@ module _ (g : Group) (c : Call) (h : IsGroup g) (w : writes (c .kind) ≡ true) 
 abbrev pub programIn : Told Program → List Push
 programIn t = counted (t .value .count) (t .value .pushes)
 
-abbrev pub takenThere : Group → List Push → Cut → Told Group
-takenThere g ps cut = takeOverOf (g .n) (take (g .n) (levelsAt ps cut (g .levels))) (take (g .n) (g .caps))
-
 -- uncut is the answer without a cut, taken the take-over, and afterwards the answer to the same target again
 pub record Mended (uncut : Told Program) (cut : Cut) (taken : Told Group) (afterwards : Told Program) : Type 0 where
   pub over : taken .number ≡ 0
@@ -207,14 +203,14 @@ pub record Mended (uncut : Told Program) (cut : Cut) (taken : Told Group) (after
 
 module _ (g : Group) (h : IsGroup g) (cut : Cut) where
   pub write-repaired : (o : Order) → writeOf g o .number ≡ 0 → IsCut (programIn (writeOf g o)) cut
-      → let taken = takenThere g (programIn (writeOf g o)) cut in Mended (writeOf g o) cut taken (writeOf (taken .value) o)
+      → let taken = takenFrom g (programIn (writeOf g o)) cut in Mended (writeOf g o) cut taken (writeOf (taken .value) o)
   unfolding applyOf takenAt
   write-repaired o e k =
       let r = call-repaired g (record { kind = Write; target = plainTarget o }) h refl refl e cut k in
       record { over = r .0; accepted = r .1; levels = r .2; pulses = r .3 }
 
   pub shared-repaired : (t : Ranked) → writeSharedOf g t .number ≡ 0 → IsCut (programIn (writeSharedOf g t)) cut
-      → let taken = takenThere g (programIn (writeSharedOf g t)) cut in Mended (writeSharedOf g t) cut taken (writeSharedOf (taken .value) t)
+      → let taken = takenFrom g (programIn (writeSharedOf g t)) cut in Mended (writeSharedOf g t) cut taken (writeSharedOf (taken .value) t)
   unfolding applyOf takenAt
   shared-repaired t e k =
       let r = call-repaired g (record { kind = WriteShared; target = t }) h refl refl e cut k in

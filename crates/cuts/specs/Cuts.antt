@@ -13,11 +13,12 @@
 --   pushesAt ps cut        the pushes up to the cut: those before it, which are complete, and the half push. Later ones are not begun
 --   levelsAt ps cut ls     the levels at the cut, of a program that began at the levels ls
 --   pulsesAt ps cut        the pulses before the cut: a half push counts its rise so far
+--   takenFrom g ps cut     the take-over after a cut of the program ps: of the levels at the cut, and the caps that the group had
 --   IsWriteOf n t w c      the call c is a write, a shared write or a store of the target t to any group of n cells, and leaves the mark w: it passes the
 --                          earlier checks there, so that nothing but worn can refuse it. A scrub is none: its target is what it reads
 --   Retry                  supply is lost at a cut, and then this call is made on the group that is taken over
 --   programOf g c          the push program that the answer to a call carries
---   takenAt g c cut        the take-over after a cut of this call: of the levels at the cut, and the caps that the group had
+--   takenAt g c cut        the take-over after a cut of this call's program
 --   AreRetries g c rs      each cuts the program of the call before it, and its own call is a write of the same target that leaves the same mark
 --   AllTaken g c rs        each take-over is accepted
 --   lastAnswer g c rs      the answer to the last call, which is not cut
@@ -67,6 +68,9 @@ levelsAt ps cut ls = played (pushesAt ps cut) ls
 unfoldable pub pulsesAt : List Push → Cut → ℕ
 pulsesAt ps cut = pulsesIn (pushesAt ps cut)
 
+abbrev pub takenFrom : Group → List Push → Cut → Told Group
+takenFrom g ps cut = takeOverOf (g .n) (take (g .n) (levelsAt ps cut (g .levels))) (take (g .n) (g .caps))
+
 -- ---- the same target, written again
 
 pub record IsWriteOf (n : ℕ) (t : List (List ℕ)) (w : Bool) (c : Call) : Type 0 where
@@ -86,7 +90,7 @@ module _ (run : Machine) where
   programOf g c = let s = run g c .value in counted (s .count) (s .pushes)
 
   unfoldable pub takenAt : Group → Call → Cut → Told Group
-  takenAt g c cut = takeOverOf (g .n) (take (g .n) (levelsAt (programOf g c) cut (g .levels))) (take (g .n) (g .caps))
+  takenAt g c cut = takenFrom g (programOf g c) cut
 
   unfoldable pub AreRetries : Group → Call → List Retry → Type 0
   AreRetries g c [] = Unit {0}

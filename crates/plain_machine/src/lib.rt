@@ -7,12 +7,14 @@ use engine::Judged;
 use group::Changed;
 use group::Group;
 use order::Cell;
+use order::Order;
 use order::Outcome;
 use push_up::Written;
 use sharing::Ranked;
 ghost use mathlib.Core.Path.{_≡_};
 ghost use Rattle.group.specs.Changes.{toldChanged};
 ghost use Rattle.push_up.specs.WriteAnswer.{toldWritten};
+ghost use Rattle.sharing.specs.Shared.{plainTarget};
 ghost use Rattle.engine.specs.Scrub.{toldApplied};
 ghost use Rattle.plain_machine.specs.Machine.{afterProgram, afterChange, applyOf};
 
@@ -35,6 +37,17 @@ pub enum Kind {
 pub struct Call {
     pub kind: Kind,
     pub target: Ranked,
+}
+
+// The target of a call that is no shared write: an order, without rank sizes. A shared write refuses it by 18.
+pub fn plain_target(cells: Order) -> Ranked
+    ensures { λ r. ⌜ r ≡ plainTarget cells ⌝ }
+{
+    Ranked {
+        count: 0,
+        sizes: [0; 12],
+        cells,
+    }
 }
 
 // One call of the plain machine.

@@ -117,7 +117,7 @@ fn apply(g: Group, kind: Kind) -> Answered
 {
     let call = Call {
         kind,
-        target: sharing::plain_target(order::zero_order()),
+        target: plain_machine::plain_target(order::zero_order()),
     };
     let answer = plain_machine::apply(g, call);
     let outcome = answer.outcome;

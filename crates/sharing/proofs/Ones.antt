@@ -1,4 +1,4 @@
--- What an accepted shared write tells; that it leaves a group; and that the write of an order is the case of all sizes 1, mark aside.
+-- A shared write leaves a group; and the write of an order is the case of all sizes 1, mark aside.
 -- Assumes nothing.
 use Prim.Native.Nat.{ℕ, zero, suc, _-_, _≤_}
 use mathlib.Core.Path.{_≡_, refl, sym, ap, ap₂, _∙_}
@@ -21,7 +21,6 @@ use Rattle.group.specs.declared.Group.{Group}
 use Rattle.group.specs.Levels.{sum}
 use Rattle.group.specs.Record.{groupChecks, IsGroup}
 use Rattle.group.proofs.Checks.{checked-size}
-use Rattle.group.proofs.Groups.{told-accepted}
 use Rattle.push_up.specs.PushUp.{singles}
 use Rattle.push_up.specs.WriteAnswer.{Program, pushChecks, pushed, unpushed, writeChecks, writeOf}
 use Rattle.push_up.proofs.Orders.{CellsOf, order-cells, cells-tail, first-low, first-high}
@@ -30,18 +29,7 @@ use Rattle.sharing.specs.declared.Ranked.{Ranked}
 use Rattle.sharing.specs.Shared.{sizesOf, eachFilled, isSizes, isListed, byNumber, ranksOf, sharedTarget, rankedChecks, sharedChecks, writeSharedOf, onesTarget, unmarked}
 use Rattle.sharing.proofs.Targets.{number-none, number-in, number-out}
 
--- ---- an accepted one
-
-pub shared-accepted : (g : Group) (t : Ranked) → writeSharedOf g t .number ≡ 0
-    → (numberOf (groupChecks g) ≡ 0) × (isSizes (g .n) t ≡ true) × (isOrderOf (g .n) (t .cells) ≡ true) × (numberOf (pushChecks g (sharedTarget (g .n) t)) ≡ 0)
-    × (writeSharedOf g t .value ≡ pushed false g (sharedTarget (g .n) t))
-unfolding writeSharedOf
-shared-accepted g t e =
-    let (d, same) = told-accepted (sharedChecks g t) (pushed false g (sharedTarget (g .n) t)) (unpushed g) e in
-    let s = all-held _ (groupChecks g) d in
-    let sizes = check-held (isSizes (g .n) t) RankSizes _ (s .1) in
-    let order = check-held (isOrderOf (g .n) (t .cells)) NoOrder _ (sizes .1) in
-    (s .0, sizes .0, order .0, order .1, same)
+-- ---- what it leaves
 
 pub shared-group : (g : Group) (t : Ranked) → IsGroup g → IsGroup (writeSharedOf g t .value .group)
 unfolding writeSharedOf

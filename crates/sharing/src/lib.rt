@@ -18,7 +18,7 @@ ghost use Rattle.order.specs.Order.{listed};
 ghost use Rattle.group.specs.Record.{allAtMost};
 ghost use Rattle.push_up.specs.WriteAnswer.{toldWritten};
 ghost use Rattle.push_up.specs.Steps.{pushUpTo, cellUp};
-ghost use Rattle.sharing.specs.Shared.{isSizes, sharedTarget, writeSharedOf, plainTarget};
+ghost use Rattle.sharing.specs.Shared.{isSizes, sharedTarget, writeSharedOf};
 ghost use Rattle.sharing.specs.Steps.{isPlace, part, Flags, rankUp, PushesFit};
 
 // A target with several cells on one rank: how many ranks, how many cells each of them has, the highest rank first, and the cells by rank. Places past the
@@ -27,17 +27,6 @@ pub struct Ranked {
     pub count: usize,
     pub sizes: [u8; 12],
     pub cells: Order,
-}
-
-// The record of a target that is an order, without rank sizes: for a call of the machine that is no shared write. A shared write refuses it by 18.
-pub fn plain_target(cells: Order) -> Ranked
-    ensures { λ r. ⌜ r ≡ plainTarget cells ⌝ }
-{
-    Ranked {
-        count: 0,
-        sizes: [0; 12],
-        cells,
-    }
 }
 
 // Minimal push-up to such a target. Checked are 1, 2, 18, 4 and 8, in this order; a refusal leaves the group, its mark included. Accepted, the mark is cleared.
