@@ -20,15 +20,15 @@ fn each_change(t: Tally, g: Group, s: usize) -> Tally {
     let cap = sample::cap(g, cell, s);
     let t1 = same::changed(
         t,
-        group::leak(g, cell, d),
+        changes::leak(g, cell, d),
         naive_calls::machine::leak(g, cell, d),
     );
     let t2 = same::changed(
         t1,
-        group::wear(g, cell, cap),
+        changes::wear(g, cell, cap),
         naive_calls::machine::wear(g, cell, cap),
     );
-    let t3 = same::changed(t2, group::erase(g), naive_calls::machine::erase(g));
+    let t3 = same::changed(t2, changes::erase(g), naive_calls::machine::erase(g));
     let t4 = same::checked(t3, group::check(g), naive_calls::machine::check(g));
     same::order_answer(t4, sensing::sense(g), naive_calls::machine::sense(g))
 }
@@ -80,7 +80,7 @@ fn after(g: Group, call: Call) -> Group {
 // A list of 250 calls from a new group, each on the record that the call before it left, and beside it on a forged one: 2 comparisons.
 fn list(t: Tally, n: usize, s: usize) -> Tally {
     let mut all = t;
-    let opened = group::open(n);
+    let opened = changes::open(n);
     let mut g = opened.group;
     for step in 0..250 {
         let call = sample::call(g, add(s, step));

@@ -206,10 +206,10 @@ pub fn through(n: usize, stride: u32) -> Tally {
 fn each_size(t: Tally, k: usize) -> Tally {
     let n = sample::size(k);
     let t1 = no_word(words(t, n, 1, 0), n, 0, 1);
-    let t2 = same::changed(t1, group::open(n), naive_calls::machine::open(n));
+    let t2 = same::changed(t1, changes::open(n), naive_calls::machine::open(n));
     let t3 = is_order(t2, with_cells([0; 12], 0), n);
     let t4 = is_order(t3, with_cells([0; 12], n), n);
-    same::changed(t4, group::open(k), naive_calls::machine::open(k))
+    same::changed(t4, changes::open(k), naive_calls::machine::open(k))
 }
 
 pub fn every_size() -> Tally {

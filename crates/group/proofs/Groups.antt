@@ -1,25 +1,18 @@
--- A group stays a group under open, leak, wear and erase.
+-- What holds of an answer's value, by its number; and a record that stays a group when it is changed.
 -- Assumes nothing.
-use Prim.Native.Nat.{ℕ, zero, suc, _-_}
+use Prim.Native.Nat.{ℕ, zero, suc}
 use mathlib.Core.Path.{_≡_, refl, _∙_}
 use mathlib.Core.Bool.{Bool, true}
-use mathlib.Core.List.{List, [], _∷_, _++_}
-use native.Mathlib.Omega.{arith}
-use lib.Dec.{leb}
-use lib.ListN.{length, replicate, length-append, length-replicate}
-use borrow.Author.Tests.{leb-true}
-use Rattle.order.specs.declared.Cell.{Cell}
+use mathlib.Core.List.{List}
+use lib.ListN.{length}
 use Rattle.order.specs.declared.Refusal.{Refusal}
-use Rattle.order.specs.declared.Refusal.the-variants.{Size, CapUp}
-use Rattle.order.specs.Refusals.{numberOf, ifDone, answer, isSize}
-use Rattle.order.proofs.Refusals.{check-held, size-true, all-held}
+use Rattle.order.specs.Refusals.{numberOf, ifDone, answer}
 use Rattle.group.specs.declared.Group.{Group}
-use Rattle.group.specs.Levels.{level, AtMost}
-use Rattle.group.specs.Record.{isRow, groupChecks, IsGroup, opened, noGroup, changed}
-use Rattle.group.specs.Changes.{cellChecks, openOf, leakOf, wearOf, eraseOf}
-use Rattle.group.proofs.Levels.{at-most-refl, at-most-length, put-below, leaked-below}
-use Rattle.group.proofs.LevelRows.{row-below, zeros-row, full-row}
-use Rattle.group.proofs.Checks.{rules-held, rules-hold, checked-levels}
+use Rattle.group.specs.Levels.{AtMost}
+use Rattle.group.specs.Record.{isRow, IsGroup, changed}
+use Rattle.group.proofs.Levels.{at-most-length}
+use Rattle.group.proofs.LevelRows.{row-below}
+use Rattle.group.proofs.Checks.{rules-held, rules-hold}
 
 -- ---- answers
 
@@ -52,37 +45,3 @@ module _ (g : Group) (h : IsGroup g) where
         levels = l;
         caps = at-most-length p ∙ h .caps;
       }
-
-pub open-group : (n : ℕ) → openOf n .number ≡ 0 → IsGroup (openOf n .value)
-unfolding openOf
-open-group n e =
-    let t = told-accepted _ (opened n) noGroup e in
-    let s = size-true n (check-held (isSize n) Size [] (t .0) .0) in
-    let full : List ℕ = replicate n 4095 in
-    let clear : List ℕ = replicate (12 - n) 0 in
-    rw (t .1)
-    (record {
-      passes = rules-hold (opened n) (record { small = s .0; large = s .1; levels = zeros-row 4095 n 12; caps = full-row 4095 n });
-      levels = refl;
-      caps = length-append full clear ∙ omega (arith, length-replicate {A = ℕ} n 4095, length-replicate {A = ℕ} (12 - n) 0);
-    })
-
-pub leak-group : (g : Group) (c : Cell) (d : ℕ) → IsGroup g → IsGroup (leakOf g c d .value)
-unfolding leakOf
-leak-group g c d h =
-    let low = leaked-below (c .0) d (g .levels) in
-    told-value IsGroup (cellChecks g c) _ g
-    (λ e. group-with g h _ (g .caps) _ (row-below 4095 (g .n) low (checked-levels g (h .passes))) (at-most-length low ∙ h .levels) (at-most-refl (g .caps))) h
-
-pub wear-group : (g : Group) (c : Cell) (cap : ℕ) → IsGroup g → IsGroup (wearOf g c cap .value)
-unfolding wearOf
-wear-group g c cap h =
-    told-value IsGroup (cellChecks g c ++ (leb cap (level (g .caps) (c .0)), CapUp) ∷ []) _ g
-    (λ e.
-    let l = leb-true cap (level (g .caps) (c .0)) (check-held _ CapUp [] (all-held _ (cellChecks g c) e .1) .0) in
-    group-with g h (g .levels) _ _ (checked-levels g (h .passes)) (h .levels) (put-below (c .0) cap (at-most-refl (g .caps)) l)) h
-
-pub erase-group : (g : Group) → IsGroup g → IsGroup (eraseOf g .value)
-unfolding eraseOf
-erase-group g h =
-    told-value IsGroup (groupChecks g) _ g (λ e. group-with g h (replicate 12 0) (g .caps) _ (zeros-row 4095 (g .n) 12) refl (at-most-refl (g .caps))) h

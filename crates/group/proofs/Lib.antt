@@ -3,4 +3,3 @@ pub mod LevelRows
 pub mod Checks
 pub mod Groups
 pub mod Told
-pub mod Row

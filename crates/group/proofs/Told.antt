@@ -5,7 +5,7 @@ use Rattle.order.specs.Refusals.{Told}
 use Rattle.order.proofs.Refusals.{outcome-by-number}
 use Rattle.group.specs.declared.Group.{Group}
 use Rattle.group.specs.declared.Changed.{Changed}
-use Rattle.group.specs.Changes.{toldChanged}
+use Rattle.group.specs.Record.{toldChanged}
 
 pub told-changed : (a b : Changed) → toldChanged a ≡ toldChanged b → a ≡ b
 told-changed a b e =

@@ -1,3 +1,2 @@
 pub mod Levels
 pub mod Record
-pub mod Changes

@@ -13,6 +13,7 @@
 --   withLevels g ls, withCaps g cs    the record with other levels, or other caps
 --   programmed w g ls   the record with these levels and the mark w
 --   erased g            all levels 0, mark cleared, caps kept
+--   toldChanged a       what an answer with a record says: its number, and the record
 use Prim.Native.Nat.{ℕ, _-_}
 use mathlib.Core.Path.{_≡_}
 use mathlib.Core.Bool.{Bool, true, false, _&&_}
@@ -21,8 +22,9 @@ use lib.Dec.{leb}
 use lib.ListN.{length, drop, replicate}
 use Rattle.order.specs.declared.Refusal.{Refusal}
 use Rattle.order.specs.declared.Refusal.the-variants.{Size, NoGroup}
-use Rattle.order.specs.Refusals.{numberOf, isSize}
+use Rattle.order.specs.Refusals.{outcomeNumber, numberOf, Told, isSize}
 use Rattle.group.specs.declared.Group.{Group}
+use Rattle.group.specs.declared.Changed.{Changed}
 
 unfoldable pub allAtMost : ℕ → List ℕ → Bool
 allAtMost m [] = true
@@ -65,3 +67,6 @@ programmed w g ls = changed g ls (g .caps) w
 
 abbrev pub erased : Group → Group
 erased g = changed g (replicate 12 0) (g .caps) false
+
+abbrev pub toldChanged : Changed → Told Group
+toldChanged a = record { number = outcomeNumber (a .outcome); value = a .group }

@@ -15,7 +15,7 @@ use Rattle.code.specs.Symbols.{wordOf, readingAt}
 use Rattle.group.specs.declared.Group.{Group}
 use Rattle.group.specs.Levels.{level, put, atMost}
 use Rattle.group.specs.Record.{allAtMost, isRow, noGroup}
-use Rattle.group.specs.Changes.{wearOf}
+use Rattle.changes.specs.Changes.{wearOf}
 use Rattle.push_up.specs.PushUp.{singles, top, floorOver, lift, raise, pushOf, rankPushes, pushes, pulsesIn}
 use Rattle.push_up.specs.WriteAnswer.{raised, fits, pushed}
 use Rattle.sensing.specs.Sense.{standsAbove, insert, sorted, sensed}

@@ -25,8 +25,9 @@ use Rattle.group.specs.declared.Group.{Group}
 use Rattle.group.specs.Levels.{level, put}
 use Rattle.group.proofs.Levels.{level-put, at-most-level, at-most-true}
 use Rattle.group.specs.Record.{groupChecks, IsGroup, opened, noGroup, withCaps}
-use Rattle.group.specs.Changes.{wearChecks, openOf, wearOf}
-use Rattle.group.proofs.Groups.{told-accepted, open-group}
+use Rattle.changes.specs.Changes.{wearChecks, openOf, wearOf}
+use Rattle.group.proofs.Groups.{told-accepted}
+use Rattle.changes.proofs.Groups.{open-group}
 use Rattle.push_up.specs.PushUp.{singles}
 use Rattle.push_up.specs.WriteAnswer.{raised, fits}
 use Rattle.push_up.proofs.Orders.{order-target, Falling, shows-falling}

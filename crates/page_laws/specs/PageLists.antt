@@ -31,7 +31,7 @@ use Rattle.order.specs.Order.{noOrder}
 use Rattle.group.specs.declared.Group.{Group}
 use Rattle.group.specs.Levels.{rises}
 use Rattle.group.specs.Record.{IsGroup}
-use Rattle.group.specs.Changes.{openOf}
+use Rattle.changes.specs.Changes.{openOf}
 use Rattle.plain_machine.specs.declared.Kind.the-variants.{Store}
 use Rattle.sharing.specs.Shared.{plainTarget}
 use Rattle.plain_machine.specs.declared.Call.{Call}

@@ -26,10 +26,11 @@ use Rattle.push_up.specs.declared.Push.{Push}
 use Rattle.push_up.specs.PushUp.{singles, Shows, pulsesIn}
 use Rattle.group.specs.Record.{groupChecks, IsGroup, withLevels, withCaps, erased}
 use Rattle.push_up.specs.WriteAnswer.{Program, writeChecks, pushArray, raised, fits, pushChecks, pushed, unpushed, writeOf}
-use Rattle.group.specs.Changes.{cellChecks, wearChecks, leakOf, wearOf, eraseOf}
+use Rattle.changes.specs.Changes.{cellChecks, wearChecks, leakOf, wearOf, eraseOf}
 use Rattle.group.proofs.Levels.{at-most-refl, at-most-true, rises-down, leaked-below}
 use Rattle.group.proofs.Checks.{checked-size}
-use Rattle.group.proofs.Groups.{by-number, leak-group, wear-group, erase-group}
+use Rattle.group.proofs.Groups.{by-number}
+use Rattle.changes.proofs.Groups.{leak-group, wear-group, erase-group}
 use Rattle.push_up.proofs.Orders.{TargetOf, order-target}
 use Rattle.push_up.proofs.Writes.{push-held, pushes-few, write-group, raised-shows}
 use Rattle.push_up.specs.PushProgram.{counted, IsPushProgram}

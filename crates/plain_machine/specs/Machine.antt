@@ -25,7 +25,7 @@ use Rattle.code.specs.Words.{K}
 use Rattle.code.specs.Symbols.{wordOf}
 use Rattle.group.specs.declared.Group.{Group}
 use Rattle.group.specs.Record.{groupChecks}
-use Rattle.group.specs.Changes.{cellChecks, wearChecks, leakOf, wearOf, eraseOf}
+use Rattle.changes.specs.Changes.{cellChecks, wearChecks, leakOf, wearOf, eraseOf}
 use Rattle.push_up.specs.PushUp.{singles}
 use Rattle.push_up.specs.WriteAnswer.{Program, pushChecks, writeOf}
 use Rattle.sharing.specs.declared.Ranked.{Ranked}

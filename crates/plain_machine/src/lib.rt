@@ -12,7 +12,7 @@ use order::Outcome;
 use push_up::Written;
 use sharing::Ranked;
 ghost use mathlib.Core.Path.{_≡_};
-ghost use Rattle.group.specs.Changes.{toldChanged};
+ghost use Rattle.group.specs.Record.{toldChanged};
 ghost use Rattle.push_up.specs.WriteAnswer.{toldWritten};
 ghost use Rattle.sharing.specs.Shared.{plainTarget};
 ghost use Rattle.engine.specs.Scrub.{toldApplied};
@@ -66,9 +66,9 @@ pub fn apply(g: Group, call: Call) -> Applied
         ),
         Kind::Store(symbol) => from_written(engine::store(g, symbol), symbol),
         Kind::Scrub => engine::scrub(g),
-        Kind::Leak(cell, d) => from_changed(group::leak(g, cell, d)),
-        Kind::Wear(cell, cap) => from_changed(group::wear(g, cell, cap)),
-        Kind::Erase => from_changed(group::erase(g)),
+        Kind::Leak(cell, d) => from_changed(changes::leak(g, cell, d)),
+        Kind::Wear(cell, cap) => from_changed(changes::wear(g, cell, cap)),
+        Kind::Erase => from_changed(changes::erase(g)),
         Kind::Read => engine::from_read(g, engine::read(g)),
     }
 }

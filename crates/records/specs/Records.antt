@@ -27,7 +27,7 @@ use Rattle.order.specs.Refusals.{refusalNumber, outcomeNumber, ifDone, Told}
 use Rattle.order.specs.Order.{noOrder}
 use Rattle.order.specs.Cells.{tabulate}
 use Rattle.group.specs.declared.Group.{Group}
-use Rattle.group.specs.Changes.{openOf}
+use Rattle.changes.specs.Changes.{openOf}
 use Rattle.engine.specs.Scrub.{Step}
 use Rattle.plain_machine.specs.declared.Kind.{Kind}
 use Rattle.plain_machine.specs.declared.Kind.the-variants.{Store, Scrub, Leak, Wear, Erase, Read}

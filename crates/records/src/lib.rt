@@ -8,7 +8,7 @@ use plain_machine::Call;
 use plain_machine::Kind;
 ghost use mathlib.Core.Path.{_≡_};
 ghost use Rattle.order.specs.Refusals.{outcomeNumber};
-ghost use Rattle.group.specs.Changes.{openOf};
+ghost use Rattle.changes.specs.Changes.{openOf};
 ghost use Rattle.plain_machine.specs.Machine.{applyOf};
 ghost use Rattle.records.specs.Records.{usesCell, unusedZero, requestOf, toldAnswered, groupAlone, callOf, afterApply, afterOpen, stepOf};
 
@@ -102,7 +102,7 @@ fn uses_cell(kind: u8) -> bool
 fn open(g: Group, n: u32) -> Answered
     ensures { λ a. ⌜ toldAnswered a ≡ afterOpen g (openOf n) ⌝ }
 {
-    let opened = group::open(n as usize);
+    let opened = changes::open(n as usize);
     let outcome = opened.outcome;
     let fresh = opened.group;
     if let Outcome::Done = outcome {

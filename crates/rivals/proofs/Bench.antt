@@ -16,7 +16,7 @@ use Rattle.group.specs.Record.{allAtMost, isRow}
 use Rattle.push_up.specs.PushUp.{singles, top, floorOver, lift, raise, pushOf, rankPushes, pushes, pulsesIn}
 use Rattle.sensing.specs.Sense.{standsAbove, insert, sorted, sensed}
 use Rattle.push_up.specs.WriteAnswer.{raised, fits, pushed}
-use Rattle.group.specs.Changes.{openOf, leakOf}
+use Rattle.changes.specs.Changes.{openOf, leakOf}
 use Rattle.plain_machine.specs.declared.Kind.{Kind}
 use Rattle.plain_machine.specs.declared.Kind.the-variants.{Store, Scrub, Leak, Read}
 use Rattle.sharing.specs.Shared.{plainTarget}

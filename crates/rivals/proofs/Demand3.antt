@@ -17,10 +17,10 @@ use Rattle.group.specs.declared.Group.{Group}
 use Rattle.group.specs.Levels.{AtMost, rises, sum}
 use Rattle.group.specs.Record.{opened, noGroup, IsGroup}
 use Rattle.push_up.specs.WriteAnswer.{raised, fits, pushChecks, pushed}
-use Rattle.group.specs.Changes.{openOf}
+use Rattle.changes.specs.Changes.{openOf}
 use Rattle.group.proofs.Levels.{at-most-refl, at-most-trans, sum-mono, rises-up, rises-down, leaked-mono, leaked-loss}
 use Rattle.push_up.proofs.Minimal.{raise-above, raise-least}
-use Rattle.group.proofs.Groups.{open-group}
+use Rattle.changes.proofs.Groups.{open-group}
 use Rattle.take_over.proofs.Taken.{take-over-group}
 use Rattle.push_up.proofs.Writes.{push-holds, fits-where}
 use Rattle.sharing.specs.declared.Ranked.{Ranked}

@@ -21,7 +21,7 @@ use Rattle.push_up.specs.PushUp.{singles, top, floorOver, Reach, Shows, lift, r
 use Rattle.group.specs.declared.Group.{Group}
 use Rattle.group.specs.Record.{allAtMost, isRow, opened, changed, withLevels}
 use Rattle.push_up.specs.WriteAnswer.{raised, fits, pushed, writeOf}
-use Rattle.group.specs.Changes.{openOf, wearOf}
+use Rattle.changes.specs.Changes.{openOf, wearOf}
 use Rattle.sensing.specs.Sense.{standsAbove, insert, sorted, sensed}
 use Rattle.engine.specs.ReadStore.{readOf}
 use Rattle.group.proofs.Levels.{at-most-true, at-most-level}

@@ -31,7 +31,7 @@ use Rattle.group.specs.Levels.{level, put, atMost}
 use Rattle.push_up.specs.PushUp.{singles, top, floorOver, lift, raise}
 use Rattle.group.specs.Record.{allAtMost, isRow, groupChecks, opened}
 use Rattle.push_up.specs.WriteAnswer.{raised, fits, pushChecks, writeOf}
-use Rattle.group.specs.Changes.{wearOf}
+use Rattle.changes.specs.Changes.{wearOf}
 use Rattle.push_up.proofs.Minimal.{Each}
 use Rattle.push_up.proofs.FullCaps.{low-fits}
 use Rattle.push_up.proofs.Writes.{push-holds}

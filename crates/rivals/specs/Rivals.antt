@@ -40,7 +40,7 @@ use Rattle.order.specs.Refusals.{numberOf, ifDone, Told}
 use Rattle.group.specs.declared.Group.{Group}
 use Rattle.group.specs.Levels.{put, AtMost, rises, leaked}
 use Rattle.push_up.specs.PushUp.{Shows}
-use Rattle.group.specs.Changes.{openOf}
+use Rattle.changes.specs.Changes.{openOf}
 use Rattle.take_over.specs.TakeOver.{takeOverOf}
 use Rattle.plain_machine.specs.declared.Kind.{Kind}
 use Rattle.plain_machine.specs.declared.Kind.the-variants.{Write, WriteInto, WriteShared, WriteSharedInto, Store, Scrub, Leak, Wear, Erase, Read}

@@ -12,8 +12,8 @@ use Rattle.order.specs.declared.Cell.{Cell}
 use Rattle.order.specs.Refusals.{Told, ifDone, answer, numberOf}
 use Rattle.group.specs.declared.Group.{Group}
 use Rattle.group.specs.Record.{noGroup, IsGroup}
-use Rattle.group.specs.Changes.{openOf, leakOf, wearOf, eraseOf}
-use Rattle.group.proofs.Groups.{open-group}
+use Rattle.changes.specs.Changes.{openOf, leakOf, wearOf, eraseOf}
+use Rattle.changes.proofs.Groups.{open-group}
 use Rattle.plain_machine.specs.declared.Kind.{Kind}
 use Rattle.plain_machine.specs.declared.Kind.the-variants.{Store, Scrub, Leak, Wear, Erase, Read}
 use Rattle.plain_machine.specs.declared.Call.{Call}

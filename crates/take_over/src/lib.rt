@@ -8,7 +8,7 @@ use order::Refusal;
 ghost use mathlib.Core.Path.{_≡_};
 ghost use mathlib.Core.Bool.{true};
 ghost use Prim.Native.Nat.{_≤_};
-ghost use Rattle.group.specs.Changes.{toldChanged};
+ghost use Rattle.group.specs.Record.{toldChanged};
 ghost use Rattle.take_over.specs.TakeOver.{isMeasured, inPlaces, takeOverOf};
 
 const MAX_LEVEL: u16 = 4095;

@@ -8,7 +8,7 @@ use Rattle.order.specs.Refusals.{refusalNumber, outcomeNumber, Told}
 use Rattle.order.proofs.Refusals.{refused-zeros}
 use Rattle.group.specs.declared.Group.{Group}
 use Rattle.group.specs.declared.Changed.{Changed}
-use Rattle.group.specs.Changes.{toldChanged}
+use Rattle.group.specs.Record.{toldChanged}
 use Rattle.records.specs.Records.{groupAlone, afterOpen}
 use Rattle.records.proofs.open.Statement.{statement}
 use Rattle.records.proofs.open.Tie as tie

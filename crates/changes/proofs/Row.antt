@@ -5,8 +5,8 @@ use mathlib.Core.Path.{_≡_, refl}
 use mathlib.Core.Bool.{true}
 use Rattle.order.specs.declared.Cell.{Cell}
 use Rattle.order.specs.Refusals.{checkRow, inRow}
 use Rattle.group.specs.declared.Group.{Group}
-use Rattle.group.specs.Changes.{cellChecks, wearChecks}
+use Rattle.changes.specs.Changes.{cellChecks, wearChecks}
 
 pub leak-in-row : (g : Group) (c : Cell) → inRow (cellChecks g c) checkRow ≡ true
 leak-in-row g c = refl

@@ -1,6 +1,5 @@
 -- Document 01, "The plain machine": what open, leak, wear and erase answer.
 --
---   toldChanged a       what an answer says: its number, and the group
 --   cellChecks, wearChecks    the checks of these calls: 1, 2, 3; and then 9
 --   openOf, leakOf, wearOf, eraseOf    the answers to the calls
 use Prim.Native.Nat.{ℕ}
@@ -10,17 +9,11 @@ use lib.Dec.{leb}
 use Rattle.order.specs.declared.Cell.{Cell}
 use Rattle.order.specs.declared.Refusal.{Refusal}
 use Rattle.order.specs.declared.Refusal.the-variants.{Size, NoCell, CapUp}
-use Rattle.order.specs.Refusals.{outcomeNumber, Told, answer, isSize}
+use Rattle.order.specs.Refusals.{Told, answer, isSize}
 use Rattle.order.specs.Cells.{isCell}
 use Rattle.group.specs.declared.Group.{Group}
-use Rattle.group.specs.declared.Changed.{Changed}
 use Rattle.group.specs.Levels.{level, put, leaked}
 use Rattle.group.specs.Record.{groupChecks, opened, noGroup, withLevels, withCaps, erased}
-
--- ---- open, leak, wear, erase
-
-abbrev pub toldChanged : Changed → Told Group
-toldChanged a = record { number = outcomeNumber (a .outcome); value = a .group }
 
 unfoldable pub openOf : ℕ → Told Group
 openOf n = answer ((isSize n, Size) ∷ []) (opened n) noGroup
