@@ -43,6 +43,8 @@ pub fn refusal(r: Refusal) -> u8 {
         Refusal::NoPage => 16,
         Refusal::Measurement => 17,
         Refusal::RankSizes => 18,
+        Refusal::Spent => 19,
+        Refusal::Endurance => 20,
     }
 }
 

@@ -75,6 +75,8 @@ pub enum Refusal {
     NoPage,
     Measurement,
     RankSizes,
+    Spent,
+    Endurance,
 }
 
 pub enum Outcome {
@@ -128,6 +130,8 @@ pub fn refusal_number(refusal: Refusal) -> u8
         Refusal::NoPage => 16,
         Refusal::Measurement => 17,
         Refusal::RankSizes => 18,
+        Refusal::Spent => 19,
+        Refusal::Endurance => 20,
     }
 }
 
