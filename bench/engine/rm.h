@@ -16,6 +16,9 @@ extern "C" {
  * the rest of out, and returns the size of the text, which is never 0. Any bytes are taken, and of an
  * input longer than 65,536 only these are read. Where out_len is below rm_room(input_len), nothing is
  * written, and 0 is returned.
+ * Each group that the input opens has an endurance of 1,000,000: a store or scrub that would bring the
+ * pulses which a cell has ever taken past it is refused 19, after 8. An erase keeps these pulses; an
+ * open starts anew.
  * The caller sees to it that input and out, not null even where a length is 0, have input_len and
  * out_len bytes and do not overlap. */
 size_t rm_run(const uint8_t *input, size_t input_len, uint8_t *out, size_t out_len);

@@ -3,6 +3,8 @@
 
 use engine::{room, run, run_into, words};
 use std::collections::BTreeSet;
+use twin::code::codeword;
+use twin::group::{ENDURANCE, Group};
 
 /// The most bytes of an input that are read.
 const LIMIT: usize = 65_536;
@@ -48,8 +50,7 @@ impl Chance {
             17 if self.below(4) == 0 => (0, 0, self.one_of(&[n as u32, n as u32, 2, 13, 256 + n as u32])),
             _ => (6, 0, 0),
         };
-        let [a, b, c, d] = value.to_le_bytes();
-        [kind, cell, 0, 0, a, b, c, d]
+        call(kind, cell, value)
     }
 
     /// An open of n, and records after it.
@@ -70,6 +71,33 @@ impl Chance {
             _ => stream.rotate_left(at / RECORD * RECORD),
         }
     }
+}
+
+fn call(kind: u8, cell: u8, value: u32) -> [u8; RECORD] {
+    let [a, b, c, d] = value.to_le_bytes();
+    [kind, cell, 0, 0, a, b, c, d]
+}
+
+/// An open of n, and calls after which the top cell of the last word has so many pulses left.
+fn nearly_spent(n: usize, left: u32) -> Vec<u8> {
+    let last = twin::code::words(n).expect("n is 3 to 12") - 1;
+    let top = codeword(n, last).expect("a symbol").cells()[0];
+    let at = usize::from(top) - 1;
+    let mut group = Group::open(n as u32, ENDURANCE).expect("n is 3 to 12");
+    let mut stream = call(0, 0, n as u32).to_vec();
+    // the higher the levels, the more pulses a leak to the ground costs
+    for symbol in [0, last].into_iter().cycle().take(300) {
+        stream.extend(call(1, 0, symbol));
+        group.store(symbol).expect("not worn yet");
+    }
+    while group.used()[at] < ENDURANCE - left {
+        let d = u32::from(group.levels()[at]).min(ENDURANCE - left - group.used()[at]);
+        stream.extend(call(3, top, d));
+        stream.extend(call(1, 0, last));
+        group.leak(top, d).expect("a cell");
+        group.store(last).expect("not spent yet");
+    }
+    stream
 }
 
 /// Both print the same for `input`; the text.
@@ -129,7 +157,7 @@ fn random_bytes() {
 
 /// Streams of all kinds for each n, as they are and damaged. All refusals that a record can meet are
 /// met: 2, 4, 10 and 11 are not among them, since no record carries a group, an order, a push list or
-/// coordinates.
+/// coordinates. 19 takes more records: see `spent_groups`.
 #[test]
 fn valid_and_damaged_streams() {
     let mut chance = Chance(2);
@@ -204,10 +232,28 @@ fn worn_groups() {
         let last = twin::code::words(n).expect("n is 3 to 12") - 1;
         let mut stream = vec![0, 0, 0, 0, n as u8, 0, 0, 0];
         for symbol in [0, last].into_iter().cycle().take(LIMIT / RECORD - 1) {
-            stream.extend([1, 0, 0, 0]);
-            stream.extend(symbol.to_le_bytes());
+            stream.extend(call(1, 0, symbol));
         }
         assert!(answers(&same(&stream)).any(|answer| answer == (1, 8)), "n = {n}");
+    }
+}
+
+/// All kinds of calls on a group of which a cell has few pulses left, or none.
+#[test]
+fn spent_groups() {
+    let mut chance = Chance(5);
+    for n in 3..=12 {
+        let mut met = BTreeSet::new();
+        for left in [0, 1, 2, 30] {
+            let mut stream = nearly_spent(n, left);
+            let length = stream.len();
+            for _ in 0..10 {
+                stream.truncate(length);
+                stream.extend((0..100).flat_map(|_| chance.record(n)));
+                met.extend(answers(&same(&stream)));
+            }
+        }
+        assert!(met.contains(&(1, 19)) && met.contains(&(2, 19)), "n = {n}");
     }
 }
 

@@ -1,6 +1,6 @@
 //! The program `rmcalls`: call records in, a line of text for each out.
 
-use crate::group::Group;
+use crate::group::{ENDURANCE, Group};
 use crate::refusal::Refusal;
 
 /// Only this many bytes of input are looked at.
@@ -46,7 +46,7 @@ fn parse(record: &[u8; 8]) -> Result<Call, Refusal> {
 fn apply(group: &mut Option<Group>, record: &[u8; 8]) -> Result<Answer, Refusal> {
     let call = parse(record)?;
     if let Call::Open { n } = call {
-        *group = Some(Group::open(n)?);
+        *group = Some(Group::open(n, ENDURANCE)?);
         return Ok(Answer::default());
     }
     let group = group.as_mut().ok_or(Refusal::Size)?;
@@ -254,6 +254,30 @@ sum 0
 sum 9
 ";
         assert_eq!(printed(&calls), expected);
+    }
+
+    #[test]
+    fn a_spent_cell() {
+        let (first, last) = (record(1, 0, 0), record(1, 0, 20_826_155));
+        let mut calls = vec![record(0, 0, 12)];
+        calls.extend([first, last].into_iter().cycle().take(370));
+        // cell 12 has used 4,070 pulses, and takes as many 244 times more
+        calls.extend([record(3, 12, 4070), last].into_iter().cycle().take(2 * 244));
+        calls.extend([record(3, 12, 2850), last, record(3, 12, 1), record(2, 0, 0), last, first]);
+        calls.extend([record(5, 0, 0), last, record(0, 0, 12), last]);
+        let expected = "
+861 1 0 20826155 2850 4059,4060,4061,4062,4063,4064,4065,4066,4067,4068,4069,4070
+862 3 0 0 0 4059,4060,4061,4062,4063,4064,4065,4066,4067,4068,4069,4069
+863 2 19 0 0 4059,4060,4061,4062,4063,4064,4065,4066,4067,4068,4069,4069
+864 1 19 0 0 4059,4060,4061,4062,4063,4064,4065,4066,4067,4068,4069,4069
+865 1 0 0 121 4080,4079,4078,4077,4076,4075,4074,4073,4072,4071,4070,4069
+866 5 0 0 0 0,0,0,0,0,0,0,0,0,0,0,0
+867 1 19 0 0 0,0,0,0,0,0,0,0,0,0,0,0
+868 0 0 0 0 0,0,0,0,0,0,0,0,0,0,0,0
+869 1 0 20826155 66 0,1,2,3,4,5,6,7,8,9,10,11
+sum 1044891
+";
+        assert!(printed(&calls).ends_with(expected));
     }
 
     #[test]

@@ -18,6 +18,8 @@ pub enum Refusal {
     RunLimit = 13,
     NoRaise = 14,
     RoomShort = 15,
+    Spent = 19,
+    Endurance = 20,
 }
 
 impl Refusal {

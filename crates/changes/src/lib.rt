@@ -1,6 +1,6 @@
-// The plain machine's calls that raise no cell: open, leak, wear, erase (document 01, "The plain machine"). A group goes in by value and comes back by
-// value. Every public function takes any record and answers it by one equation with a definition of specs/. Proved besides: what an open makes is a group,
-// and a group stays a group (proofs/Groups).
+// The calls that make a group, or change one without raising a cell: open, leak, wear, erase (document 01, "The plain machine"; document 02, request (h), for the
+// endurance). A group goes in by value and comes back by value. Every public function takes any record and answers it by one equation with a definition of
+// specs/. Proved besides: what an open makes is a group, and a group stays a group (proofs/Groups).
 use group::Changed;
 use group::Group;
 use order::Cell;
@@ -16,16 +16,19 @@ ghost use Rattle.changes.specs.Changes.{openOf, cellChecks, leakOf, wear
 
 const MAX_LEVEL: u16 = 4095;
 
-// A group of n cells, all at 0 with full caps.
-pub fn open(n: usize) -> Changed
-    ensures { λ r. ⌜ toldChanged r ≡ openOf n ⌝ }
+// A group of n cells with this endurance, all at 0 with full caps, that have taken no pulses.
+pub fn open(n: usize, endurance: u32) -> Changed
+    ensures { λ r. ⌜ toldChanged r ≡ openOf n endurance ⌝ }
 {
     if !order::is_size(n) {
         return group::unmade(Refusal::Size);
     }
+    if !group::is_endurance(endurance) {
+        return group::unmade(Refusal::Endurance);
+    }
     Changed {
         outcome: Outcome::Done,
-        group: group::fresh(n, full_caps(n)),
+        group: group::fresh(n, full_caps(n), endurance),
     }
 }
 
@@ -114,7 +117,7 @@ pub fn wear(g: Group, cell: Cell, cap: u32) -> Changed
     }
 }
 
-// All levels go to 0 and the mark is cleared. The caps stay.
+// All levels go to 0 and the mark is cleared. The caps, the used pulses and the endurance stay.
 pub fn erase(g: Group) -> Changed
     ensures { λ r. ⌜ toldChanged r ≡ eraseOf g ⌝ }
 {

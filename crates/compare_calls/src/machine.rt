@@ -77,10 +77,18 @@ fn after(g: Group, call: Call) -> Group {
     a.group
 }
 
+// The endurance of a list of calls: one that lasts, or in three of four one below 2,000.
+fn endurance(s: usize) -> u32 {
+    if sample::below(4, s, 110) == 0 {
+        return 1000000;
+    }
+    std::num::wrapping_add_u32(sample::below32(1999, s, 111), 1)
+}
+
 // A list of 250 calls from a new group, each on the record that the call before it left, and beside it on a forged one: 2 comparisons.
 fn list(t: Tally, n: usize, s: usize) -> Tally {
     let mut all = t;
-    let opened = changes::open(n);
+    let opened = changes::open(n, endurance(s));
     let mut g = opened.group;
     for step in 0..250 {
         let call = sample::call(g, add(s, step));
@@ -132,11 +140,20 @@ fn small_call(k: usize) -> Call {
     }
 }
 
-// Every small group: 27 levels, 64 caps, marked or not; and each of the 22 calls on it.
+// Every small group: 27 levels, 64 caps, marked or not, and 0 to 3 pulses used of cell 1; and each of the 22 calls on it.
 pub fn every_small() -> Tally {
     let mut t = none();
-    for k in 0..76032 {
+    for k in 0..304128 {
         t = apply(t, sample::small(3, k / 22), small_call(k % 22));
+    }
+    t
+}
+
+// Every small group with 0 to 3 pulses used of each cell; and each of the six orders written to it.
+pub fn every_small_write() -> Tally {
+    let mut t = none();
+    for k in 0..1327104 {
+        t = apply(t, sample::small(3, k / 6), small_call(16 + k % 6));
     }
     t
 }

@@ -10,13 +10,13 @@ use comparing::report::Report;
 use comparing::report::part;
 
 enum Part {
-    // 1,000 sampled records and as many forged ones, 10 comparisons each: every number from 0 to 10, and 18.
+    // 1,000 sampled records and as many forged ones, 10 comparisons each: every number from 0 to 10, 18 and 19.
     Records,
     // 2,500 pairs of sampled groups: 0, 1, 2, 6, 7.
     Alike,
-    // 40 lists of 250 calls, 2 comparisons each: every number from 0 to 10, and 18.
+    // 40 lists of 250 calls, 2 comparisons each: every number from 0 to 10, 18 and 19.
     CallLists,
-    // 200 sampled records and as many forged ones, lists of 0 to 12 places, 2 comparisons each: 0, 1, 2, 4, 8, 10.
+    // 200 sampled records and as many forged ones, lists of 0 to 12 places, 2 comparisons each: 0, 1, 2, 4, 8, 10, 19.
     LentLists,
 }
 
@@ -41,9 +41,17 @@ fn each(r: Report, p: Part, from: usize, last: usize) -> Report {
 
 fn main() {
     let mut r = report::empty();
-    // 27 levels, 64 caps and 2 marks, 22 calls each. Refused are: cells 0 and 4, leaked and worn, 3; symbol 2, 5; a scrub or read of a group
-    // that is not marked, 6; and a cap of 0 worn to 1, 9.
+    // 27 levels, 64 caps, 2 marks, and 0 to 3 pulses used of cell 1, which can take 3; 22 calls each. Refused are: cells 0 and 4, leaked and worn, 3;
+    // symbol 2, 5; a scrub or read of a group that is not marked, 6; a cap of 0 worn to 1, 9; a store, scrub or write 8, or else 19.
     r = part(r, b"every small group, n = ", 3, machine::every_small());
+    // The same groups with 0 to 3 pulses used of each cell, and 6 orders. With 27 levels, of the 64 caps those are worn that are below a new level, and of
+    // the 64 lists of used pulses those are spent that leave less than a rise: 0, 8, 19.
+    r = part(
+        r,
+        b"every small write, n = ",
+        3,
+        machine::every_small_write(),
+    );
     r = each(r, Part::Records, 3, 12);
     r = each(r, Part::Alike, 3, 12);
     r = each(r, Part::CallLists, 3, 12);

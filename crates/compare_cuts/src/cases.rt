@@ -4,8 +4,25 @@ use comparing::sample;
 use comparing::tally::Tally;
 use comparing::tally::none;
 use group::Group;
+use naive_calls::tallies::with_rises;
 use plain_machine::Call;
 use plain_machine::Kind;
+
+// The group with just the used pulses that the call, where it is accepted, brings to the endurance in every cell: at a cut, one pulse too many is then one
+// too many for the call made again.
+fn at_limit(g: Group, call: Call) -> Group {
+    let whole = naive_calls::machine::apply(g, call);
+    let end = whole.group;
+    let full = sample::spent(g);
+    let spent = full.used;
+    let new = end.levels;
+    let old = g.levels;
+    // the levels change places: each cell's rise is taken off
+    let used = with_rises(spent, new, old);
+    let mut h = g;
+    h.used = used;
+    h
+}
 
 // Every small group, and each of the six orders written to it in this way, in a shared write with ranks that end there (`sample::ranked`).
 pub fn every_small(kind: Kind, ends: usize) -> Tally {
@@ -15,7 +32,8 @@ pub fn every_small(kind: Kind, ends: usize) -> Tally {
             kind,
             target: sample::ranked(sample::order_at(3, k % 6), 3, ends),
         };
-        t = compared(t, sample::small(3, k / 6), call, call, k);
+        let g = at_limit(sample::small(3, k / 6), call);
+        t = compared(t, g, call, call, k);
     }
     t
 }

@@ -11,13 +11,14 @@ use plain_machine::Call;
 use push_up::Push;
 
 // A call that is cut: what is called after a cut, the group and the pulses of the second implementation's answer to the uncut call, and the engine's
-// push program under way, with the levels that it began from and the pulses before it.
+// push program under way, with the levels and used pulses that it began from and the pulses before it.
 struct Cutting {
     tally: Tally,
     again: Call,
     end: Group,
     pulses: u32,
     levels: [u16; 12],
+    used: [u32; 12],
     before: u32,
     count: usize,
     pushes: [Push; 11],
@@ -49,17 +50,20 @@ fn level_at(push: Push, j: usize) -> u16 {
     std::num::wrapping_sub_u16(std::num::wrapping_add_u16(push.reach, more), 4)
 }
 
-// Four comparisons at a cut of the program under way: the group taken over there, the call made again on it, that this ends with the group of the
-// uncut call, and that the pulses of all pieces add up to those of the uncut call. The program of the call made again is then under way.
+// Four comparisons at a cut of the program under way: the group taken over there, with the endurance that it had, the call made again on it, that this ends
+// with the group of the uncut call, its used pulses too, and that the pulses of all pieces add up to those of the uncut call. The program of the call made
+// again is then under way.
 fn cut_at(c: Cutting, k: usize, level: u16) -> Cutting {
     let end = c.end;
     let old = c.levels;
+    let had = c.used;
     let caps = end.caps;
     let program = c.pushes;
-    let there = naive_calls::cuts::at_cut(old, program, k, level);
+    let there = naive_calls::cuts::at_cut(old, had, program, k, level);
     let levels = there.levels;
+    let used = there.used;
     let t = c.tally;
-    let both = of_cells(t, end.n, levels, caps);
+    let both = of_cells(t, end.n, levels, caps, used, end.endurance);
     let again = c.again;
     let a = plain_machine::apply(both.group, again);
     let b = naive_calls::machine::apply(both.other, again);
@@ -76,6 +80,7 @@ fn cut_at(c: Cutting, k: usize, level: u16) -> Cutting {
         end,
         pulses: c.pulses,
         levels,
+        used,
         before,
         count: a.count,
         pushes,
@@ -124,6 +129,7 @@ pub fn compared(t: Tally, g: Group, call: Call, again: Call, s: usize) -> Tally 
     }
     let end = whole.group;
     let levels = g.levels;
+    let used = g.used;
     let pushes = a.pushes;
     every_cut(
         Cutting {
@@ -132,6 +138,7 @@ pub fn compared(t: Tally, g: Group, call: Call, again: Call, s: usize) -> Tally 
             end,
             pulses: whole.pulses,
             levels,
+            used,
             before: 0,
             count: a.count,
             pushes,

@@ -57,7 +57,7 @@ fn main() {
     r = each(r, Part::Lists, 0, 16);
     r = each(r, Part::SampledOrders, 7, 12);
     r = each(r, Part::Words, 3, 12);
-    // 20 sizes, 6 comparisons each: 10 new groups, 40 times no order, which is no refusal, all else refused 1.
+    // 20 sizes, 12 comparisons each: of the 10 that a group has, 20 new groups, and 20 refused 20; 40 times no order, which is no refusal; all else refused 1.
     r = part(r, b"sizes, ", 20, words::every_size());
     report::total(r);
 }

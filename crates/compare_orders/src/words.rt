@@ -201,15 +201,28 @@ pub fn through(n: usize, stride: u32) -> Tally {
     t
 }
 
-// Six comparisons: of a size that no group has, the number of words, a word, a new group, and whether zeros are an order; and a new group of
+// Four comparisons: new groups of this size, with the lowest and the highest endurance and with the two just outside.
+fn opens(t: Tally, n: usize) -> Tally {
+    open(open(open(open(t, n, 0), n, 1), n, 1000000), n, 1000001)
+}
+
+fn open(t: Tally, n: usize, endurance: u32) -> Tally {
+    same::changed(
+        t,
+        changes::open(n, endurance),
+        naive_calls::machine::open(n, endurance),
+    )
+}
+
+// Twelve comparisons: of a size that no group has, the number of words, a word, new groups, and whether zeros are an order; and new groups of
 // size k.
 fn each_size(t: Tally, k: usize) -> Tally {
     let n = sample::size(k);
     let t1 = no_word(words(t, n, 1, 0), n, 0, 1);
-    let t2 = same::changed(t1, changes::open(n), naive_calls::machine::open(n));
+    let t2 = opens(t1, n);
     let t3 = is_order(t2, with_cells([0; 12], 0), n);
     let t4 = is_order(t3, with_cells([0; 12], n), n);
-    same::changed(t4, changes::open(k), naive_calls::machine::open(k))
+    opens(t4, k)
 }
 
 pub fn every_size() -> Tally {

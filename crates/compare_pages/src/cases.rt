@@ -33,7 +33,7 @@ fn record(n: usize, s: usize) -> Group {
 }
 
 // The group changed: blank; lost, which no order of 3 cells is; worn; with a level above 4,095; with a cap past n, or of 12 cells one above 4,095;
-// with no cells; with ten cells more; or, in the ninth way, to be put right when it is read.
+// with no cells; with ten cells more; in the ninth way to be put right when it is read; or in the tenth with no pulses left.
 fn changed(g: Group, way: usize) -> Group {
     let n = g.n;
     let mut h = g;
@@ -71,18 +71,21 @@ fn changed(g: Group, way: usize) -> Group {
         let written = naive_calls::machine::write(g, near);
         return written.group;
     }
+    if way == 10 {
+        return sample::spent(g);
+    }
     h
 }
 
-// How place j is spoiled in case k: one of the eight places in the way of the case, 0 to 9; in the second half the last group, at index k % 8, in
+// How place j is spoiled in case k: one of the eight places in the way of the case, 0 to 10; in the second half the last group, at index k % 8, in
 // another way, which goes round with n; else not, as in way 0.
 fn way(n: usize, k: usize, j: usize) -> usize {
     if k / 8 % 8 == j {
-        return k / 64 % 10;
+        return k / 64 % 11;
     }
-    if 640 <= k {
+    if 704 <= k {
         if k % 8 == j {
-            return add(k / 64, n % 9 + 1) % 10;
+            return add(k / 64, n % 10 + 1) % 11;
         }
     }
     0
@@ -107,15 +110,16 @@ fn made(n: usize, many: usize, k: usize) -> Case {
     Case { groups, places }
 }
 
-// 3 to 8 cells, all 1,280 cases; 9 to 12 cells, a fifth of them, in which 2, 5, 6, 7 and 8 each come from seven of the eight groups or all.
+// 3 to 8 cells, all 1,408 cases; 9 to 12 cells, 256 of them each; in these together 2, 5, 6, 7, 8 and 19 each come from each of the
+// eight groups.
 pub fn refusing() -> Tally {
     let mut t = none();
-    for i in 0..8704 {
-        let mut n = 3 + i / 1280;
-        let mut k = i % 1280;
-        if 7680 <= i {
-            n = 9 + (i - 7680) / 256;
-            k = (i - 7680) % 256 * 437 % 1280;
+    for i in 0..9472 {
+        let mut n = 3 + i / 1408;
+        let mut k = i % 1408;
+        if 8448 <= i {
+            n = 9 + (i - 8448) / 256;
+            k = (i - 8448) % 256 * 437 % 1408;
         }
         let count = k % 8 + 1;
         t = compared(t, made(n, count, k), count, count);

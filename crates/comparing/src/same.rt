@@ -93,6 +93,15 @@ fn rows(a: [u16; 12], b: [u16; 12]) -> bool {
     true
 }
 
+fn tallies(a: [u32; 12], b: [u32; 12]) -> bool {
+    for i in 0..12 {
+        if a[i] != b[i] {
+            return false;
+        }
+    }
+    true
+}
+
 pub fn push(a: Push, b: Push) -> bool {
     if a.cell.0 != b.cell.0 {
         return false;
@@ -121,6 +130,14 @@ pub fn groups(a: Group, b: Group) -> bool {
     let caps = a.caps;
     let other_caps = b.caps;
     if !rows(caps, other_caps) {
+        return false;
+    }
+    let used = a.used;
+    let other_used = b.used;
+    if !tallies(used, other_used) {
+        return false;
+    }
+    if a.endurance != b.endurance {
         return false;
     }
     if a.n != b.n {

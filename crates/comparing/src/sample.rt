@@ -6,6 +6,8 @@ use naive::numbers::at;
 use naive::numbers::at16;
 use naive::numbers::byte;
 use naive::numbers::put;
+use naive::numbers::wide16;
+use naive::numbers::wide64;
 use naive::orders::cells_of;
 use naive::orders::placed;
 use naive::orders::with_cells;
@@ -55,7 +57,10 @@ pub fn below(m: usize, sequence: usize, k: usize) -> usize {
 }
 
 pub fn below32(m: usize, sequence: usize, k: usize) -> u32 {
-    let x = below(m, sequence, k);
+    narrow32(below(m, sequence, k))
+}
+
+fn narrow32(x: usize) -> u32 {
     if x < 4294967296 { x as u32 } else { 0 }
 }
 
@@ -82,14 +87,26 @@ fn digits(n: usize, k: usize, base: usize) -> [u16; 12]
     row
 }
 
-// A small group of n cells: of 3 cells every one with levels to 2 and caps to 3, marked or not, when i is 0 to 3,455; of more cells some with levels to 2
-// and caps to n.
+// The same digits as used pulses.
+fn used_digits(row: [u16; 12]) -> [u32; 12] {
+    let mut used = [0u32; 12];
+    for i in 0..12 {
+        used[i] = wide16(row[i]);
+    }
+    used
+}
+
+// A small group of n cells: of 3 cells every one with levels to 2 and caps to 3, marked or not, when i is 0 to 3,455, and then with used pulses, up to the
+// endurance of 3; of more cells some with levels to 2, caps to n and used pulses to n, the endurance.
 pub fn small(n: usize, i: usize) -> Group {
     let k = if n == 3 { i } else { below(1000000000, n, i) };
+    let most = n % 13;
     Group {
         n,
         levels: digits(n, k, 3),
-        caps: digits(n, k / 27, n % 13 + 1),
+        caps: digits(n, k / 27, most + 1),
+        used: used_digits(digits(n, k / 3456, most + 1)),
+        endurance: most as u32,
         written: k / 1728 % 2 == 1,
     }
 }
@@ -191,28 +208,52 @@ fn full(n: usize) -> [u16; 12] {
     caps
 }
 
-// A group that any order can be written to.
+// Used pulses of n cells: one of the numbers up to the most, of which there are so many. 0 past n.
+fn used_to(n: usize, most: u32, many: usize, s: usize) -> [u32; 12] {
+    let mut used = [0u32; 12];
+    for i in 0..12 {
+        if i < n {
+            used[i] = std::num::wrapping_sub_u32(most, below32(many, s, i));
+        }
+    }
+    used
+}
+
+// A group that any order can be written to, and another after it, and another: each cell has 64 pulses left or more, and rises by no more than 34, to 34,
+// and then to 45 and to 56.
 pub fn low_group(n: usize, s: usize) -> Group {
     let levels = row(n, 24, add(s, 1));
     let caps = full(n);
     let written = below(8, s, 62) != 0;
+    let most = below(999937, s, 63);
+    let used = used_to(n, narrow32(most), add(most, 1), add(s, 4));
     Group {
         n,
         levels,
         caps,
+        used,
+        endurance: narrow32(add(most, 64)),
         written,
     }
 }
 
-// A group that no order can be written to: the caps are 0 or 1.
+// The group with no pulses left to any of its cells.
+pub fn spent(g: Group) -> Group {
+    let mut h = g;
+    let used = used_to(g.n, g.endurance, 1, 0);
+    h.used = used;
+    h
+}
+
+// A group that no order can be written to: the caps are 0 or 1. No pulses are left either, which is looked at after the caps.
 pub fn worn_group(n: usize, s: usize) -> Group {
-    let mut g = low_group(n, s);
+    let mut g = spent(low_group(n, s));
     let caps = row(n, 2, s);
     g.caps = caps;
     g
 }
 
-// A group with low levels or any, and with full caps or any.
+// A group with low levels or any, with full caps or any, and with many pulses left or few: below 48.
 pub fn group(n: usize, s: usize) -> Group {
     let mut g = low_group(n, s);
     if below(2, s, 60) == 0 {
@@ -222,6 +263,10 @@ pub fn group(n: usize, s: usize) -> Group {
     if below(4, s, 61) == 0 {
         let caps = row(n, 4096, add(s, 3));
         g.caps = caps;
+    }
+    if below(4, s, 64) == 0 {
+        let used = used_to(n, g.endurance, 48, add(s, 5));
+        g.used = used;
     }
     g
 }
@@ -234,11 +279,34 @@ fn edge(s: usize) -> u16 {
     narrow(4094 + below(4, s, 76) % 4)
 }
 
-// A sampled group with another level, cap or size: mostly no group.
+// An endurance just outside its range, a lower one, or any number.
+fn other_endurance(endurance: u32, s: usize) -> u32 {
+    let way = below(4, s, 77);
+    if way == 0 {
+        return 0;
+    }
+    if way == 1 {
+        return 1000001;
+    }
+    if way == 2 {
+        return below32(add(wide64(endurance), 1), s, 78);
+    }
+    below32(4294967296, s, 78)
+}
+
+// Used pulses one below the endurance, at it or one above, or in one of four any number.
+fn used_edge(endurance: u32, s: usize) -> u32 {
+    if below(4, s, 72) == 0 {
+        return below32(4294967296, s, 73);
+    }
+    std::num::wrapping_sub_u32(std::num::wrapping_add_u32(endurance, 1), below32(3, s, 76))
+}
+
+// A sampled group with another level, cap, number of used pulses, endurance or size: mostly no group.
 pub fn forged(n: usize, s: usize) -> Group {
     let mut h = group(n, s);
     let at = below(12, s, 70);
-    let way = below(4, s, 71);
+    let way = below(6, s, 71);
     if at < 12 {
         if way == 0 {
             h.levels[at] = edge(s);
@@ -246,8 +314,12 @@ pub fn forged(n: usize, s: usize) -> Group {
             h.caps[at] = edge(s);
         } else if way == 2 {
             h.n = std::num::wrapping_sub_usize(add(n, below(4, s, 74)), 2);
-        } else {
+        } else if way == 3 {
             h.n = size(below(20, s, 75));
+        } else if way == 4 {
+            h.used[at] = used_edge(h.endurance, s);
+        } else {
+            h.endurance = other_endurance(h.endurance, s);
         }
     }
     h

@@ -183,22 +183,24 @@ module _ (g : Group) (c : Call) (h : IsGroup g) (w : writes (c .kind) ≡ true) 
       let again = applyOf (taken .value) c in
       (taken .number ≡ 0)
       × (again .number ≡ 0)
-      × (again .value .group .levels ≡ applyOf g c .value .group .levels)
+      × (again .value .group ≡ applyOf g c .value .group)
       × (pulsesAt (programOf applyOf g c) cut + again .value .pulses ≡ applyOf g c .value .pulses)
   unfolding AreCuts AllTaken lastAnswer pulsesBefore
   call-repaired k =
       let r = list-repaired g h c w e c (same-call g c w e s) (cut ∷ []) (k, tt) in
-      (r .taken .0, r .accepted, ap (λ (a : Group). a .levels) (r .same), omega (arith, r .pulses))
+      (r .taken .0, r .accepted, r .same, omega (arith, r .pulses))
 
--- the request's own sentence, of a write and of a shared write: the group taken over with its levels at the cut and the caps it had, and written the same target
+-- the requests' own sentences, of a write and of a shared write: the group taken over with its levels and used pulses at the cut, and the caps and the endurance it
+-- had, and written the same target
 abbrev pub programIn : Told Program → List Push
 programIn t = counted (t .value .count) (t .value .pushes)
 
--- uncut is the answer without a cut, taken the take-over, and afterwards the answer to the same target again
+-- uncut is the answer without a cut, taken the take-over, and afterwards the answer to the same target again: the whole group is the same, so its levels are, and
+-- its used pulses
 pub record Mended (uncut : Told Program) (cut : Cut) (taken : Told Group) (afterwards : Told Program) : Type 0 where
   pub over : taken .number ≡ 0
   pub accepted : afterwards .number ≡ 0
-  pub levels : afterwards .value .group .levels ≡ uncut .value .group .levels
+  pub same : afterwards .value .group ≡ uncut .value .group
   pub pulses : pulsesAt (programIn uncut) cut + afterwards .value .pulses ≡ uncut .value .pulses
 
 module _ (g : Group) (h : IsGroup g) (cut : Cut) where
@@ -207,11 +209,11 @@ module _ (g : Group) (h : IsGroup g) (cut : Cut) where
   unfolding applyOf takenAt
   write-repaired o e k =
       let r = call-repaired g (record { kind = Write; target = plainTarget o }) h refl refl e cut k in
-      record { over = r .0; accepted = r .1; levels = r .2; pulses = r .3 }
+      record { over = r .0; accepted = r .1; same = r .2; pulses = r .3 }
 
   pub shared-repaired : (t : Ranked) → writeSharedOf g t .number ≡ 0 → IsCut (programIn (writeSharedOf g t)) cut
       → let taken = takenFrom g (programIn (writeSharedOf g t)) cut in Mended (writeSharedOf g t) cut taken (writeSharedOf (taken .value) t)
   unfolding applyOf takenAt
   shared-repaired t e k =
       let r = call-repaired g (record { kind = WriteShared; target = t }) h refl refl e cut k in
-      record { over = r .0; accepted = r .1; levels = r .2; pulses = r .3 }
+      record { over = r .0; accepted = r .1; same = r .2; pulses = r .3 }

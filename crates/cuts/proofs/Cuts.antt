@@ -1,5 +1,5 @@
 -- A push program that is cut. The levels there are between the old and the new ones, so they are raised to the same; and what they have grown by are
--- the pulses before the cut. Over any gap and any ranks that list no cell twice.
+-- the pulses before the cut, by which the used pulses have grown too. Over any gap and any ranks that list no cell twice.
 -- Assumes nothing.
 use Prim.Native.Nat.{ℕ, zero, suc, _+_, _-_, _≤_, _<_, zero-le}
 use mathlib.Core.Path.{_≡_, refl, ap}
@@ -8,14 +8,15 @@ use native.Mathlib.Nat.{le-refl}
 use native.Mathlib.Omega.{arith}
 use lib.ListN.{length, take, drop}
 use lib.Seq.{take-length, drop-length}
-use Rattle.group.specs.Levels.{level, put, AtMost, sum}
+use Rattle.group.specs.declared.Group.{Group}
+use Rattle.group.specs.Levels.{level, put, AtMost, empty, more, sum, tallied}
 use Rattle.group.proofs.Levels.{level-put, put-same, at-most-refl, at-most-trans, at-most-length, put-below, put-above, sum-put}
 use Rattle.push_up.specs.declared.Push.{Push}
 use Rattle.push_up.specs.PushUp.{raise, pushes, pulsesIn}
 use Rattle.push_up.specs.PushProgram.{played}
 use Rattle.push_up.proofs.Minimal.{Apart, raise-between}
 use Rattle.push_up.proofs.Programs.{Runs, rest, next, runs-played, runs-pulses, program-runs}
-use Rattle.cuts.specs.Cuts.{Cut, Between, IsCut, halfPush, pushesAt, levelsAt, pulsesAt}
+use Rattle.cuts.specs.Cuts.{Cut, Between, IsCut, halfPush, pushesAt, levelsAt, pulsesAt, usedAt}
 
 -- ---- the pushes before a place, and those from it on
 
@@ -99,6 +100,19 @@ module _ {ps : List Push} {ls ms : List ℕ} (r : Runs ps ls ms) (cut : Cut) (c 
   cut-grown =
       let whole = runs-pulses (runs-front (cut .done) r) in
       rw levels-split (omega (arith, pulses-split, whole, half-grown (cut .level) (runs-back (cut .done) r) (c .1)))
+
+-- ---- the used pulses at a cut
+
+sum-tallied : {xs ys : List ℕ} (us : List ℕ) → length us ≡ length xs → AtMost xs ys → sum (tallied us xs ys) + sum xs ≡ sum us + sum ys
+unfolding tallied sum
+sum-tallied [] e empty = refl
+sum-tallied [] e (more h p) = absurd (omega (arith, e))
+sum-tallied (u ∷ us) e empty = absurd (omega (arith, e))
+sum-tallied (u ∷ us) e (more h p) = omega (arith, h, sum-tallied us (omega (arith, e)) p)
+
+pub cut-used : (g : Group) {ps : List Push} {ms : List ℕ} → Runs ps (g .levels) ms → (cut : Cut) → IsCut ps cut → length (g .used) ≡ length (g .levels)
+    → sum (usedAt g ps cut) ≡ sum (g .used) + pulsesAt ps cut
+cut-used g r cut c e = omega (arith, sum-tallied (g .used) e (cut-above r cut c), cut-grown r cut c)
 
 -- ---- the ends are cuts: nothing pushed yet, and all pushed
 

@@ -2,43 +2,50 @@
 -- and the pulses add up.
 -- Assumes nothing.
 use Prim.Native.Nat.{ℕ, _+_}
-use mathlib.Core.Path.{_≡_, refl, sym, ap, subst, _∙_}
+use mathlib.Core.Path.{_≡_, refl, sym, ap, ap₂, subst, _∙_}
 use mathlib.Core.Bool.{true}
 use mathlib.Core.List.{List, [], _∷_}
 use native.Mathlib.Omega.{arith}
 use lib.ListN.{length}
 use Rattle.order.specs.Refusals.{numberOf, Told}
 use Rattle.group.specs.declared.Group.{Group}
-use Rattle.group.specs.Levels.{AtMost}
-use Rattle.group.specs.Record.{isRow, IsGroup, programmed}
+use Rattle.group.specs.Levels.{AtMost, sum, tallied}
+use Rattle.group.specs.Record.{isRow, IsGroup, changed, programmed}
 use Rattle.group.proofs.Levels.{at-most-refl, at-most-trans, at-most-length, true-at-most}
-use Rattle.group.proofs.LevelRows.{row-below}
-use Rattle.group.proofs.Checks.{checked-caps}
+use Rattle.group.proofs.LevelRows.{all-below, row-below}
+use Rattle.group.proofs.Tallies.{length-tallied, tallied-mono, tallied-twice, row-tallied}
+use Rattle.group.proofs.Checks.{rules-held, checked-caps}
 use Rattle.group.proofs.Groups.{group-with}
 use Rattle.push_up.specs.PushUp.{pushes, pulsesIn}
-use Rattle.push_up.specs.WriteAnswer.{Program, raised, fits, pushChecks, pushed}
+use Rattle.push_up.specs.WriteAnswer.{Program, raised, fits, lasts, pushChecks, pushed}
 use Rattle.push_up.specs.PushProgram.{counted}
 use Rattle.push_up.proofs.Minimal.{Apart}
 use Rattle.push_up.proofs.Programs.{program-runs, counted-pushes}
 use Rattle.push_up.proofs.Writes.{push-holds, target-apart}
 use Rattle.take_over.proofs.Taken.{taken-with}
 use Rattle.plain_machine.specs.declared.Call.{Call}
-use Rattle.plain_machine.specs.Machine.{writes, marks, target, earlierChecks, applyOf}
-use Rattle.plain_machine.proofs.Machine.{programPart, apply-number, apply-program, apply-pushed, done-checks, done-pushes, target-of}
-use Rattle.cuts.specs.Cuts.{Cut, IsCut, levelsAt, pulsesAt, programOf, takenAt, IsWriteOf, AreRetries, AllTaken, lastAnswer, pulsesBefore, RepairsCuts}
-use Rattle.cuts.proofs.Cuts.{first, last, first-cut, last-cut, cut-below, cut-raised, cut-pulses}
+use Rattle.plain_machine.specs.Machine.{writes, marks, target, checks, applyOf}
+use Rattle.plain_machine.proofs.Machine.{programPart, apply-number, apply-program, apply-pushed, done-checks, done-held, done-pushes, target-of}
+use Rattle.cuts.specs.Cuts.{Cut, IsCut, levelsAt, pulsesAt, usedAt, programOf, takenAt, IsWriteOf, AreRetries, AllTaken, lastAnswer, pulsesBefore, RepairsCuts}
+use Rattle.cuts.proofs.Cuts.{first, last, first-cut, last-cut, cut-above, cut-below, cut-used, cut-raised, cut-pulses}
 
 -- ---- one cut of an accepted call
 
 module _ (g : Group) (h : IsGroup g) (c : Call) (w : writes (c .kind) ≡ true) (e : applyOf g c .number ≡ 0) where
-  passed : (numberOf (earlierChecks g c) ≡ 0) × AtMost (raised g (target g c)) (g .caps)
-  passed = done-checks g c w (sym (apply-number g c) ∙ e)
+  done : numberOf (checks g c) ≡ 0
+  done = sym (apply-number g c) ∙ e
+
+  within : AtMost (raised g (target g c)) (g .caps)
+  within = done-held g c w done .0
+
+  enduring : lasts g (target g c) ≡ true
+  enduring = done-held g c w done .1
 
   abbrev ranks : List (List ℕ)
   ranks = target g c
 
   apart : Apart (length (g .levels)) ranks
-  apart = target-apart g ranks h (target-of g (c .target) (c .kind) w (passed .0))
+  apart = target-apart g ranks h (target-of g (c .target) (c .kind) w (done-checks g c w done .0))
 
   program : programOf applyOf g c ≡ pushes 1 ranks (g .levels)
   program = ap (λ (p : Program). counted (p .count) (p .pushes)) (apply-pushed g c w e) ∙ counted-pushes (marks (c .kind)) g ranks
@@ -67,9 +74,15 @@ module _ (g : Group) (h : IsGroup g) (c : Call) (w : writes (c .kind) ≡ true) 
     is-cut : IsCut (pushes 1 ranks (g .levels)) cut
     is-cut = rw program at k
 
-    low : AtMost there (g .caps)
+    grown : AtMost (g .levels) there
+    grown = rw program (cut-above (program-runs 1 ranks (g .levels) apart) cut is-cut)
+
+    to-grow : AtMost there (raised g (target g c))
     unfolding raised
-    low = at-most-trans (rw program (cut-below (program-runs 1 ranks (g .levels) apart) cut is-cut)) (passed .1)
+    to-grow = rw program (cut-below (program-runs 1 ranks (g .levels) apart) cut is-cut)
+
+    low : AtMost there (g .caps)
+    low = at-most-trans to-grow within
 
     there-row : isRow 4095 (g .n) there ≡ true
     there-row = row-below 4095 (g .n) low (checked-caps g (h .passes))
@@ -77,20 +90,38 @@ module _ (g : Group) (h : IsGroup g) (c : Call) (w : writes (c .kind) ≡ true) 
     there-twelve : length there ≡ 12
     there-twelve = at-most-length low ∙ h .caps
 
+    -- the used pulses there: all cells together they have grown by the pulses before the cut
+    pub call-used : let ps = programOf applyOf g c in sum (usedAt g ps cut) ≡ sum (g .used) + pulsesAt ps cut
+    call-used = rw program (cut-used g (program-runs 1 ranks (g .levels) apart) cut is-cut (omega (arith, h .used, h .levels)))
+
+    -- and no cell has taken more than after the uncut call
+    used-row : isRow (g .endurance) (g .n) (takenGroup .used) ≡ true
+    unfolding lasts
+    used-row =
+        row-tallied (g .endurance) 4095 (g .n) (g .used) (g .levels) there (rules-held g (h .passes) .used) there-row
+        (all-below (g .endurance) (tallied-mono (g .used) (g .levels) to-grow) enduring)
+
+    used-twelve : length (takenGroup .used) ≡ 12
+    used-twelve = length-tallied (g .used) (g .levels) there ∙ h .used
+
     pub cut-taken : takenAt applyOf g c cut ≡ record { number = 0; value = takenGroup }
     unfolding takenAt
-    cut-taken = taken-with g h there there-row there-twelve
+    cut-taken = taken-with g h there (takenGroup .used) there-row there-twelve used-row used-twelve
 
     pub taken-group : IsGroup takenGroup
-    taken-group = group-with g h there (g .caps) true there-row there-twelve (at-most-refl (g .caps))
+    taken-group = group-with g h there (g .caps) (takenGroup .used) true there-row there-twelve (at-most-refl (g .caps)) used-row used-twelve
 
     same-levels : raised takenGroup (target g c) ≡ raised g (target g c)
     unfolding raised
     same-levels = rw program (cut-raised 1 ranks (g .levels) apart cut is-cut)
 
+    -- the rise so far and the rise that is left are the uncut rise
+    same-used : tallied (takenGroup .used) there (raised takenGroup (target g c)) ≡ tallied (g .used) (g .levels) (raised g (target g c))
+    same-used = rw same-levels (tallied-twice (g .used) grown to-grow)
+
     has-room : numberOf (pushChecks takenGroup (target g c)) ≡ 0
-    unfolding fits
-    has-room = push-holds takenGroup (target g c) (true-at-most (rw same-levels (passed .1)))
+    unfolding fits lasts
+    has-room = push-holds takenGroup (target g c) (true-at-most (rw same-levels within)) (rw same-used enduring)
 
     -- the same target, written to it
     module _ (d : Call) (a : IsWriteOf (g .n) (target g c) (marks (c .kind)) d) where
@@ -109,7 +140,8 @@ module _ (g : Group) (h : IsGroup g) (c : Call) (w : writes (c .kind) ≡ true) 
       again-same : applyOf takenGroup d .value .group ≡ applyOf g c .value .group
       unfolding pushed
       again-same =
-          ap (λ (p : Program). p .group) again-pushed ∙ ap (λ (ls : List ℕ). programmed (marks (c .kind)) g ls) same-levels
+          ap (λ (p : Program). p .group) again-pushed
+          ∙ ap₂ (λ (ls us : List ℕ). changed g ls (g .caps) us (marks (c .kind))) same-levels same-used
           ∙ sym (ap (λ (p : Program). p .group) (apply-pushed g c w e))
 
       again-pulses : pulsesAt (programOf applyOf g c) cut + applyOf takenGroup d .value .pulses ≡ applyOf g c .value .pulses

@@ -1,8 +1,9 @@
 -- Document 02, request (e): supply is lost in the middle of a push program, the group is taken over from its levels there and the caps it had, and the
--- same target is written; and so again, as often as supply is lost. No leak comes between. The push program is the one that the caller holds: the
--- pushes that the machine's answer carries.
+-- same target is written; and so again, as often as supply is lost. By request (h) it is taken over with its used pulses there, those of the half push
+-- included, and the endurance it had. No leak comes between. The push program is the one that the caller holds: the pushes that the machine's answer
+-- carries.
 -- The claim is about any machine that answers calls. That ours meets it is the theorem `cuts-repaired` (proofs/Repairs) about `applyOf`; wrong ones are
--- refuted (proofs/Refuted). Which levels an uncut call comes to, and that it is not refused without a reason, are for demand 3 to say (rivals, specs
+-- refuted (proofs/Refuted). Which levels and used pulses an uncut call comes to, and that it is not refused without a reason, are for demand 3 to say (rivals, specs
 -- Rivals). That each retry before the last one would be accepted too, were it not cut, is the same claim of a shorter list.
 --
 --   Cut                    where supply is lost: how many pushes are complete, and the level at which the cell being pushed stands
@@ -13,9 +14,11 @@
 --   pushesAt ps cut        the pushes up to the cut: those before it, which are complete, and the half push. Later ones are not begun
 --   levelsAt ps cut ls     the levels at the cut, of a program that began at the levels ls
 --   pulsesAt ps cut        the pulses before the cut: a half push counts its rise so far
---   takenFrom g ps cut     the take-over after a cut of the program ps: of the levels at the cut, and the caps that the group had
+--   usedAt g ps cut        the pulses that each cell has ever taken, at the cut: those that it had, and its rise so far
+--   takenFrom g ps cut     the take-over after a cut of the program ps: of the levels and the used pulses at the cut, and the caps and the endurance that the
+--                          group had
 --   IsWriteOf n t w c      the call c is a write, a shared write or a store of the target t to any group of n cells, and leaves the mark w: it passes the
---                          earlier checks there, so that nothing but worn can refuse it. A scrub is none: its target is what it reads
+--                          earlier checks there, so that nothing but worn or spent can refuse it. A scrub is none: its target is what it reads
 --   Retry                  supply is lost at a cut, and then this call is made on the group that is taken over
 --   programOf g c          the push program that the answer to a call carries
 --   takenAt g c cut        the take-over after a cut of this call's program
@@ -32,6 +35,7 @@ use mathlib.Core.List.{List, [], _∷_, _++_}
 use lib.ListN.{length, take, drop}
 use Rattle.order.specs.Refusals.{numberOf, Told}
 use Rattle.group.specs.declared.Group.{Group}
+use Rattle.group.specs.Levels.{tallied}
 use Rattle.group.specs.Record.{IsGroup}
 use Rattle.push_up.specs.declared.Push.{Push}
 use Rattle.push_up.specs.PushUp.{pulsesIn}
@@ -68,8 +72,12 @@ levelsAt ps cut ls = played (pushesAt ps cut) ls
 unfoldable pub pulsesAt : List Push → Cut → ℕ
 pulsesAt ps cut = pulsesIn (pushesAt ps cut)
 
+abbrev pub usedAt : Group → List Push → Cut → List ℕ
+usedAt g ps cut = tallied (g .used) (g .levels) (levelsAt ps cut (g .levels))
+
 abbrev pub takenFrom : Group → List Push → Cut → Told Group
-takenFrom g ps cut = takeOverOf (g .n) (take (g .n) (levelsAt ps cut (g .levels))) (take (g .n) (g .caps))
+takenFrom g ps cut =
+    takeOverOf (g .n) (take (g .n) (levelsAt ps cut (g .levels))) (take (g .n) (g .caps)) (take (g .n) (usedAt g ps cut)) (g .endurance)
 
 -- ---- the same target, written again
 
@@ -116,7 +124,7 @@ module _ (run : Machine) where
     pub taken : AllTaken g c rs
     -- the last call is accepted
     pub accepted : lastAnswer g c rs .number ≡ 0
-    -- the group ends as after the uncut call: with its levels, its caps and its mark
+    -- the group ends as after the uncut call: with its levels, its caps, its used pulses, its endurance and its mark
     pub same : lastAnswer g c rs .value .group ≡ run g c .value .group
     -- pulses before the cuts and after the last one together equal the uncut count
     pub pulses : pulsesBefore g c rs + lastAnswer g c rs .value .pulses ≡ run g c .value .pulses

@@ -116,7 +116,7 @@ module _ (g : Group) where
       ∙ rw (same .1, same .0) (sym (later-decide _ (markedChecks g) m)))
       (rw (same .1, same .0))
 
--- ---- the write of an order of the group's cells: refused as worn alone
+-- ---- the write of an order of the group's cells: refused as worn or as spent alone
 
 module _ (g : Group) (d : numberOf (groupChecks g) ≡ 0) (w : List ℕ) (t : isOrder (g .n) w ≡ true) where
   pub write-listed : (checks : List (Bool × Refusal)) → numberOf checks ≡ numberOf (pushChecks g (singles w)) → writeOf g (orderRecord w) ≡ answer checks (pushed true g (singles w)) (unpushed g)

@@ -1,4 +1,4 @@
--- The checks run in the order of document 01's row. Those of alike are the first group's, then the second's: "first group first".
+-- The checks run in the order of the row. Those of alike are the first group's, then the second's: "first group first".
 -- Assumes nothing.
 use Prim.Native.Nat.{ℕ}
 use mathlib.Core.Path.{_≡_, refl}

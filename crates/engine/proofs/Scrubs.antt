@@ -8,7 +8,7 @@
 --   scrub-tells   an accepted scrub tells the symbol and the verdict of a read before it
 --   scrub-group   a group stays a group under scrub
 --   store-scrubs  a group that was stored to can be scrubbed
---   scrub-kept    a refused scrub, worn or other, gives the group back, with symbol 0, no verdict and no pulses
+--   scrub-kept    a refused scrub, worn, spent or other, gives the group back, with symbol 0, no verdict and no pulses
 -- Assumes nothing.
 use Prim.Native.Nat.{ℕ, zero, suc, _<_}
 use native.Mathlib.Omega.{arith}
@@ -77,7 +77,7 @@ module _ (g : Group) (d : numberOf (readChecks g) ≡ 0) where
   unfolding readingAt symbolOf
   symbol-low = number-below (g .n) pos _ (codeword-word (g .n) pos (wordFound g) found-order found-codeword)
 
-  -- to write it is refused where the scrub is, as worn alone
+  -- to write it is refused where the scrub is, as worn or as spent alone
   write-found : writeOf g (orderRecord (wordFound g)) ≡ answer (scrubChecks g) (pushed true g (singles (wordFound g))) (unpushed g)
   write-found = write-listed g checks-passed (wordFound g) found-order (scrubChecks g) (later-decide _ (readChecks g) d)
 

@@ -4,7 +4,7 @@
 --   placeRead g           the place at which it is put right: 0 where it is a codeword, n where it is lost
 --   markedChecks g        the checks of a read before it decodes: 1, 2, 6
 --   readChecks g          the checks of a read: 1, 2, 6, 7
---   storeChecks g s       the checks of a store: 1, 2, 5, 8
+--   storeChecks g s       the checks of a store: 1, 2, 5, 8, 19
 --   readingOf g           what an accepted read answers: the symbol and the verdict
 --   toldRead, toldAlike   what an answer says: its number, and the reading, or yes or no
 --   readOf, storeOf, alikeOf    the answers to the calls

@@ -7,7 +7,7 @@
 --   programmedStep      what an answer to a call that raises cells carries
 --   afterRead g t       the answer to a read of g that says t: the group stays as it is
 --   wordFound g         the codeword that a reading finds (where the order is lost, the order as it was read; nothing is written then)
---   scrubChecks g       the checks of a scrub: 1, 2, 6, 7, 8
+--   scrubChecks g       the checks of a scrub: 1, 2, 6, 7, 8, 19
 --   scrubOf g           the answer to `scrub`: read, then write the codeword found
 use Prim.Native.Nat.{ℕ}
 use mathlib.Core.Bool.{Bool, true}

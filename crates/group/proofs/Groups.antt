@@ -35,13 +35,20 @@ told-accepted checks result zeros e = (e, rw e)
 -- ---- groups
 
 module _ (g : Group) (h : IsGroup g) where
-  -- good levels, and caps nowhere above the old ones
-  pub group-with : (ls ks : List ℕ) (w : Bool) → isRow 4095 (g .n) ls ≡ true → length ls ≡ 12 → AtMost ks (g .caps)
-      → IsGroup (changed g ls ks w)
-  group-with ls ks w r l p =
+  -- good levels, caps nowhere above the old ones, and used pulses that the endurance allows
+  pub group-with : (ls ks us : List ℕ) (w : Bool) → isRow 4095 (g .n) ls ≡ true → length ls ≡ 12 → AtMost ks (g .caps) → isRow (g .endurance) (g .n) us ≡ true → length us ≡ 12
+      → IsGroup (changed g ls ks us w)
+  group-with ls ks us w r l p q u =
       let rules = rules-held g (h .passes) in
       record {
-        passes = rules-hold (changed g ls ks w) (record { small = rules .small; large = rules .large; levels = r; caps = row-below 4095 (g .n) p (rules .caps) });
+        passes =
+            rules-hold (changed g ls ks us w)
+            (record { small = rules .small; large = rules .large; levels = r; caps = row-below 4095 (g .n) p (rules .caps); endurance = rules .endurance; used = q });
         levels = l;
         caps = at-most-length p ∙ h .caps;
+        used = u;
       }
+
+  -- the same with the used pulses that it has
+  pub group-kept : (ls ks : List ℕ) (w : Bool) → isRow 4095 (g .n) ls ≡ true → length ls ≡ 12 → AtMost ks (g .caps) → IsGroup (changed g ls ks (g .used) w)
+  group-kept ls ks w r l p = group-with ls ks (g .used) w r l p (rules-held g (h .passes) .used) (h .used)

@@ -1,4 +1,4 @@
--- Laws of rows: lists of levels or caps that a loop reads place by place.
+-- Laws of rows: lists of levels, caps or used pulses that a loop reads place by place.
 -- Assumes nothing.
 use Prim.Native.Nat.{ℕ, zero, suc, _+_, _-_, _*_, _^_, _<_, _≤_}
 use mathlib.Core.Path.{_≡_, refl, sym, ap, ap₂, _∙_}
@@ -9,7 +9,7 @@ use native.Mathlib.Nat.{sub-zero, zero-sub, suc-sub-suc, le-refl, le-trans}
 use native.Mathlib.Omega.{arith}
 use lib.Bits.{bitAnd, bitOr}
 use lib.Dec.{leb, ltb}
-use lib.ListN.{length, getD, take, drop, replicate, length-drop, length-replicate}
+use lib.ListN.{length, getD, take, drop, replicate, length-drop, length-replicate, drop-of-length-le}
 use lib.Seq.{drop-at}
 use borrow.Author.Tests.{leb-true, leb-false, le-leb, lt-leb}
 use Rattle.order.proofs.Cells.{both, lt-cases}
@@ -58,12 +58,20 @@ all-at m [] e i = omega arith
 all-at m (x ∷ xs) e zero = leb-true x m (both (leb x m) (allAtMost m xs) e .0)
 all-at m (x ∷ xs) e (suc i) = all-at m xs (both (leb x m) (allAtMost m xs) e .1) i
 
-all-below : {xs ys : List ℕ} (m : ℕ) → AtMost xs ys → allAtMost m ys ≡ true → allAtMost m xs ≡ true
+pub all-below : {xs ys : List ℕ} (m : ℕ) → AtMost xs ys → allAtMost m ys ≡ true → allAtMost m xs ≡ true
 unfolding allAtMost
 all-below m empty e = refl
 all-below m (more {y = y} {ys = ys} h p) e =
     let t = both (leb y m) (allAtMost m ys) e in
     rw (le-leb _ m (le-trans h (leb-true y m (t .0)))) (all-below m p (t .1))
+
+-- a greater limit
+pub all-under : (m k : ℕ) (xs : List ℕ) → m ≤ k → allAtMost m xs ≡ true → allAtMost k xs ≡ true
+unfolding allAtMost
+all-under m k [] h e = refl
+all-under m k (x ∷ xs) h e =
+    let t = both (leb x m) (allAtMost m xs) e in
+    rw (le-leb x k (le-trans (leb-true x m (t .0)) h)) (all-under m k xs h (t .1))
 
 all-drop : (m k : ℕ) (xs : List ℕ) → allAtMost m xs ≡ true → allAtMost m (drop k xs) ≡ true
 unfolding allAtMost
@@ -125,7 +133,7 @@ first-past m x xs = regroup (leb x m) (allAtMost m xs) (leb x 0) (allAtMost 0 xs
     least true e = rw (le-leb x m (omega (arith, leb-true x 0 e)))
     least false e = and-false (leb x m)
 
-row-step : (m n i : ℕ) (xs : List ℕ) → i < length xs → isRow m (n - i) (drop i xs) ≡ (leb (getD xs i 0) (limit m n i) && isRow m (n - (i + 1)) (drop (i + 1) xs))
+pub row-step : (m n i : ℕ) (xs : List ℕ) → i < length xs → isRow m (n - i) (drop i xs) ≡ (leb (getD xs i 0) (limit m n i) && isRow m (n - (i + 1)) (drop (i + 1) xs))
 row-step m n i xs inside =
     ⊎-elim
     (λ t. let e : n - i ≡ suc (n - (i + 1)) = omega arith in rw (t .1, drop-up xs i inside, e) (first-in m _ _ _))
@@ -134,6 +142,11 @@ row-step m n i xs inside =
     let f : n - (i + 1) ≡ 0 = omega arith in
     rw (t .1, drop-up xs i inside, e, f) (first-past m _ _))
     (lt-cases i n)
+
+-- and where no place is left
+pub row-ends : (b : Bool) (m n i : ℕ) (xs : List ℕ) → length xs ≤ i → (b && isRow m n (drop i xs)) ≡ b
+unfolding isRow allAtMost
+row-ends b m n i xs l = rw (drop-of-length-le xs {i = i} l, drop-of-length-le {A = ℕ} [] {i = n} (omega arith), and-true b)
 
 -- the places from i on of both rows
 abbrev pub rowsFrom : ℕ → ℕ → ℕ → List ℕ → List ℕ → Bool

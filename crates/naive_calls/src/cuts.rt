@@ -1,6 +1,7 @@
-// A group that is taken over, and a push program that is cut (document 02, request (e)).
+// A group that is taken over, and a push program that is cut (document 02, requests (e) and (h)).
 use crate::machine::check;
-use crate::machine::open;
+use crate::machine::no_record;
+use crate::tallies::with_rises;
 use group::Group;
 use naive::answers::Answer;
 use naive::answers::plain;
@@ -9,9 +10,10 @@ use naive::numbers::put16;
 use naive::numbers::wide16;
 use push_up::Push;
 
-// What a cut leaves: the levels there, and the pulses up to it.
+// What a cut leaves: the levels and the used pulses there, and the pulses up to it.
 pub struct Cut {
     pub levels: [u16; 12],
+    pub used: [u32; 12],
     pub pulses: u32,
 }
 
@@ -26,29 +28,54 @@ fn twelve(values: &[u16]) -> [u16; 12] {
     row
 }
 
-// The record that the lists make is taken over where it is a group, and each list has as many values as it has cells.
-pub fn take_over(n: usize, levels: &[u16], caps: &[u16]) -> Answer {
-    let g = Group {
+// The same of used pulses.
+fn twelve_used(values: &[u32]) -> [u32; 12] {
+    let mut row = [0u32; 12];
+    for i in 0..12 {
+        if i < values.len() {
+            row[i] = values[i];
+        }
+    }
+    row
+}
+
+// The record that the lists make is taken over where it is a group, and each list has as many values as it has cells. The levels and caps are checked on
+// cells that have taken no pulses.
+pub fn take_over(n: usize, levels: &[u16], caps: &[u16], used: &[u32], endurance: u32) -> Answer {
+    let mut g = Group {
         n,
         levels: twelve(levels),
         caps: twelve(caps),
+        used: [0; 12],
+        endurance: 1,
         written: true,
     };
-    let number = check(g);
-    if number == 0 && levels.len() == n && caps.len() == n {
-        return plain(0, g);
+    let measured = check(g);
+    if measured == 1 {
+        return no_record(1);
     }
-    // a refused open has the number 1 and the all-zero record
-    let mut refused = open(0);
-    if number != 1 {
-        refused.number = 17;
+    if measured != 0 || levels.len() != n || caps.len() != n {
+        return no_record(17);
     }
-    refused
+    let tallies = twelve_used(used);
+    g.used = tallies;
+    g.endurance = endurance;
+    if check(g) != 0 || used.len() != n {
+        return no_record(20);
+    }
+    plain(0, g)
 }
 
 // A program that is cut after so many complete pushes, with the cell of the next one at this level, from its start to its reach. A half push counts
-// its rise so far. After the last push the next is that of no cell, which rises from 0 to 0.
-pub fn at_cut(old: [u16; 12], pushes: [Push; 11], complete: usize, level: u16) -> Cut {
+// its rise so far. After the last push the next is that of no cell, which rises from 0 to 0. The used pulses are those from before with how much each cell
+// has risen up to the cut, whichever pushes did it.
+pub fn at_cut(
+    old: [u16; 12],
+    before: [u32; 12],
+    pushes: [Push; 11],
+    complete: usize,
+    level: u16,
+) -> Cut {
     let mut levels = old;
     let mut pulses: u32 = 0;
     for k in 0..11 {
@@ -61,5 +88,9 @@ pub fn at_cut(old: [u16; 12], pushes: [Push; 11], complete: usize, level: u16) -
             pulses = std::num::wrapping_add_u32(pulses, rise);
         }
     }
-    Cut { levels, pulses }
+    Cut {
+        levels,
+        used: with_rises(before, old, levels),
+        pulses,
+    }
 }

@@ -1,6 +1,6 @@
 // Targets with several cells on one rank (document 02, request (g)).
 use crate::machine::check;
-use crate::machine::is_worn;
+use crate::machine::raised;
 use crate::machine::with_push;
 use group::Group;
 use naive::answers::Answer;
@@ -91,7 +91,6 @@ fn new_level(ranks: [u8; 12], old: [u16; 12], c: usize) -> u32 {
 // The answer to a write of these ranks: rank by rank from the lowest, and on each by rising cell number, each cell that really rises is pushed.
 fn pushed_up(g: Group, ranks: [u8; 12]) -> Answer {
     let old = g.levels;
-    let caps = g.caps;
     let mut levels = old;
     let mut a = plain(0, g);
     for k in 0..144 {
@@ -106,15 +105,11 @@ fn pushed_up(g: Group, ranks: [u8; 12]) -> Answer {
             }
         }
     }
-    if is_worn(levels, caps) {
-        return plain(8, g);
+    let left = raised(g, levels, false);
+    if left.number != 0 {
+        return left;
     }
-    let group = Group {
-        n: g.n,
-        levels,
-        caps,
-        written: false,
-    };
+    let group = left.group;
     a.group = group;
     a
 }

@@ -7,8 +7,8 @@
 --   Told A              an answer in the table's terms: its number, and the value of type A beside it
 --   answer checks a z   0 and the result a where all checks hold, else the number and the zeros z
 --   isSize n            n is from 3 to 12
---   checkRow            the order in which checks run: document 01's row, with 16 before 1, 17 after 1 and then 20, 13 before 3, 18 directly before 4, 14 after 3, 19 after 8, and
---                       15 last
+--   checkRow            the order in which checks run: document 01's row, with 16 before 1, 17 after 1 and then 20, 13 before 3, 18 directly before 4, 14 after 3,
+--                       19 after 8, and 15 last
 --   inRow checks row    checks are listed in the order of the row
 --
 -- A check is a pair: whether it holds, and the refusal that applies where it does not. Checks are listed in the order in which they run.

@@ -14,12 +14,12 @@ use Rattle.group.specs.declared.Group.{Group}
 use Rattle.engine.specs.ReadStore.{storeOf}
 use Rattle.plain_machine.specs.declared.Call.{Call}
 use Rattle.plain_machine.specs.Machine.{applyOf}
-use Rattle.rivals.specs.Rivals.{after, pulsesOf}
+use Rattle.rivals.specs.Rivals.{isWornOrSpent, after, pulsesOf}
 use Rattle.page.specs.declared.Page.{Page}
 use Rattle.page.specs.Groups.{allOf}
 use Rattle.page.specs.Pages.{groupAt, likeFirst, isPage}
 use Rattle.page_store.specs.StoreAnswer.{symbolAt, takes, numberStored, AfterStore, storePageOf}
-use Rattle.page_laws.specs.PageLists.{PageCall, onGroup, storePage, readPage, PageMachine, among, isWorn, stands, HoldsGroups, pageStep, ownCall, afterCalls, pulsesOfCalls, callsOf, PageDemand3, MeetsPageDemand3}
+use Rattle.page_laws.specs.PageLists.{PageCall, onGroup, storePage, readPage, PageMachine, among, stands, HoldsGroups, pageStep, ownCall, afterCalls, pulsesOfCalls, callsOf, PageDemand3, MeetsPageDemand3}
 use Rattle.page_laws.proofs.Groups.{among-below, of-among, all-same, total-same, FirstAt, first-not}
 use Rattle.page_laws.proofs.Steps.{Answered, no-page, done, refused, answered}
 use Rattle.page_laws.proofs.PageDemand3.{page-claim}
@@ -100,7 +100,7 @@ module _ (store : PageMachine) (meets : MeetsPageDemand3 store) where
     stands-same k = let t = same-told in rw (t .0) (go (ours .number) (t .1))
       where
         go : (m : ℕ) → (m ≢ 0 → theirs .value .group ≡ ours .value .group)
-            → ifDone m true (isWorn m && eqb (theirs .value .group) k) ≡ ifDone m true (isWorn m && eqb (ours .value .group) k)
+            → ifDone m true (isWornOrSpent m && eqb (theirs .value .group) k) ≡ ifDone m true (isWornOrSpent m && eqb (ours .value .group) k)
         go zero f = refl
         go (suc m) f = rw (f (λ e. absurd (omega arith)))
 

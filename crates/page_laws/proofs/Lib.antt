@@ -2,6 +2,7 @@ pub mod Groups
 pub mod Steps
 pub mod PageDemand3
 pub mod Holds
+pub mod Stuck
 pub mod Valid
 pub mod Bench
 pub mod Refuted

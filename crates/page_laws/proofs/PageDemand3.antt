@@ -7,24 +7,23 @@ use mathlib.Core.Logic.{_≢_, _↔_}
 use mathlib.Core.Bool.{Bool, true, false, false≢true}
 use mathlib.Core.List.{List, [], _∷_, _++_}
 use lib.ListN.{length}
-use borrow.Author.Tests.{eqb-true, eq-eqb}
-use Rattle.order.specs.declared.Refusal.the-variants.{Size, NoGroup, NoSymbol, Worn}
+use Rattle.order.specs.declared.Refusal.the-variants.{Size, NoGroup, NoSymbol, Worn, Spent}
 use Rattle.order.specs.Refusals.{numberOf, Told}
 use Rattle.group.specs.declared.Group.{Group}
 use Rattle.group.specs.Levels.{rises}
 use Rattle.plain_machine.specs.declared.Call.{Call}
 use Rattle.plain_machine.specs.Machine.{target, earlierChecks, applyOf}
 use Rattle.plain_machine.proofs.Machine.{apply-number, apply-rises}
-use Rattle.rivals.specs.Rivals.{after, pulsesOf, plain, Raisable, Demand3}
+use Rattle.rivals.specs.Rivals.{isWornOrSpent, after, pulsesOf, plain, Raisable, Demand3}
 use Rattle.rivals.proofs.Demand3.{group-after, demand3}
 use Rattle.page.specs.declared.Page.{Page}
 use Rattle.page.specs.Groups.{total}
 use Rattle.page.specs.Pages.{groupAt}
 use Rattle.page_store.specs.StoreAnswer.{symbolAt, takes, AfterStore, numberStored, storePageOf}
 use Rattle.page_store.proofs.Storing.{store-not}
-use Rattle.page_laws.specs.PageLists.{PageCall, storePage, among, isWorn, storeCall, HoldsGroups, pageStep, ownCall, afterCalls, pulsesOfCalls, callsOf, PageDemand3, MeetsPageDemand3}
+use Rattle.page_laws.specs.PageLists.{PageCall, storePage, among, storeCall, HoldsGroups, pageStep, ownCall, afterCalls, pulsesOfCalls, callsOf, PageDemand3, MeetsPageDemand3}
 use Rattle.page_laws.proofs.Groups.{among-true, among-below, of-among, total-same, total-plus, total-none, FirstAt, no-first, first-not}
-use Rattle.page_laws.proofs.Steps.{room, Answered, no-page, done, refused, answered, store-call-number, first-refused, step-count, step-length, through, kept, through-stands, worn-stands, other-not, not-stands, own-stands, own-not, worn-first, worn-store, rival-stays, no-calls, group-by-call, group-step, pulses-step}
+use Rattle.page_laws.proofs.Steps.{room, Answered, no-page, done, refused, answered, store-call-number, first-refused, step-count, step-length, through, kept, through-stands, stuck-stands, other-not, not-stands, own-stands, own-not, stuck-first, stuck-store, rival-stays, no-calls, group-by-call, group-step, pulses-step}
 
 -- ---- lists of calls on one group, one after the other
 
@@ -38,17 +37,17 @@ unfolding after pulsesOf
 pulses-append g [] ys = omega arith
 pulses-append g (x ∷ xs) ys = omega (arith, pulses-append (applyOf g x .value .group) xs ys)
 
--- a store that is worn passed the earlier checks
-only-last-worn : (a b c f : Bool) → isWorn (numberOf ((a, Size) ∷ (b, NoGroup) ∷ (c, NoSymbol) ∷ (f, Worn) ∷ [])) ≡ true
+-- a store that is worn or spent passed the earlier checks
+only-last-stuck : (a b c f l : Bool) → isWornOrSpent (numberOf ((a, Size) ∷ (b, NoGroup) ∷ (c, NoSymbol) ∷ (f, Worn) ∷ (l, Spent) ∷ [])) ≡ true
     → numberOf ((a, Size) ∷ (b, NoGroup) ∷ (c, NoSymbol) ∷ []) ≡ 0
 unfolding numberOf
-only-last-worn true true true f e = refl
-only-last-worn true true false f e = absurd (false≢true e)
-only-last-worn true false c f e = absurd (false≢true e)
-only-last-worn false b c f e = absurd (false≢true e)
+only-last-stuck true true true f l e = refl
+only-last-stuck true true false f l e = absurd (false≢true e)
+only-last-stuck true false c f l e = absurd (false≢true e)
+only-last-stuck false b c f l e = absurd (false≢true e)
 
-worn-passed : (g : Group) (s : ℕ) → isWorn (applyOf g (storeCall s) .number) ≡ true → numberOf (earlierChecks g (storeCall s)) ≡ 0
-worn-passed g s w = only-last-worn _ _ _ _ (sym (ap isWorn (apply-number g (storeCall s))) ∙ w)
+stuck-passed : (g : Group) (s : ℕ) → isWornOrSpent (applyOf g (storeCall s) .number) ≡ true → numberOf (earlierChecks g (storeCall s)) ≡ 0
+stuck-passed g s w = only-last-stuck _ _ _ _ _ (sym (ap isWornOrSpent (apply-number g (storeCall s))) ∙ w)
 
 -- ---- lists of calls on a page
 
@@ -165,55 +164,54 @@ module _ (p : Page) (h : HoldsGroups p) (cs : List PageCall) where
     refused-first zero t m r b = absurd (false≢true m)
     refused-first (suc i) t m r b = rw (first-refused now ss t i (first i (among-true (p .count) i m) b r)) (refl, refl)
 
-    named-worn : isWorn (told .number) ≡ true
+    named-stuck : isWornOrSpent (told .number) ≡ true
         → let k = told .value .group in
         (among (p .count) k ≡ true) × (own k ≡ call k ∷ []) × (applyOf (groupAt now k) (call k) .number ≡ told .number) × ((j : ℕ) → j ≢ k → own j ≡ [])
-    named-worn w =
-        let t = worn-store now ss w in (
+    named-stuck w =
+        let t = stuck-store now ss w in (
           ap (λ (n : ℕ). among n (told .value .group)) (sym (count-after p cs)) ∙ t .0,
-          own-stands now ss (told .value .group) (worn-stands now ss w),
+          own-stands now ss (told .value .group) (stuck-stands now ss w),
           t .1,
           λ j d. own-not now ss j (other-not now ss w j d),
         )
 
-    no-list : told .number ≢ 0 → isWorn (told .number) ≡ false → (k : ℕ) → own k ≡ []
+    no-list : told .number ≢ 0 → isWornOrSpent (told .number) ≡ false → (k : ℕ) → own k ≡ []
     no-list r w k = own-not now ss k (not-stands now ss r w k)
 
     -- no rival of group k can be raised to show the codeword of its symbol
     abbrev Shut : ℕ → Type 0
     Shut k = let g = groupAt p k in ¬ (Raisable applyOf g (calls k p cs) (target (plain applyOf g g (calls k p cs)) (call k)))
 
-    -- demand 3 of a group of the page: past the earlier checks its store is worn exactly then
-    worn-shut : (i : ℕ) → i < p .count → numberOf (earlierChecks (groupAt now (suc i)) (call (suc i))) ≡ 0
-        → (isWorn (applyOf (groupAt now (suc i)) (call (suc i)) .number) ≡ true) ↔ Shut (suc i)
-    worn-shut i l e =
+    -- demand 3 of a group of the page: past the earlier checks its store is worn or spent exactly then
+    stuck-shut : (i : ℕ) → i < p .count → numberOf (earlierChecks (groupAt now (suc i)) (call (suc i))) ≡ 0
+        → (isWornOrSpent (applyOf (groupAt now (suc i)) (call (suc i)) .number) ≡ true) ↔ Shut (suc i)
+    stuck-shut i l e =
         let same = groups-after p cs (room p h) i l in
-        let x = own-demand (suc i) (among-below (p .count) i l) .worn-exactly (call (suc i)) refl (rw same at e) in
-        rw same (λ w. x .0 (eqb-true _ 8 w), λ shut. eq-eqb _ 8 (x .1 shut))
+        rw same (own-demand (suc i) (among-below (p .count) i l) .stuck-exactly (call (suc i)) refl (rw same at e))
 
-    abbrev WornAt : ℕ → Type 0
-    WornAt k = (takes now ss ≡ true) × (among (p .count) k ≡ true) × Before k × (numberOf (earlierChecks (groupAt now k) (call k)) ≡ 0) × Shut k
+    abbrev StuckAt : ℕ → Type 0
+    StuckAt k = (takes now ss ≡ true) × (among (p .count) k ≡ true) × Before k × (numberOf (earlierChecks (groupAt now k) (call k)) ≡ 0) × Shut k
 
-    worn-why : (k : ℕ) → isWorn (told .number) ≡ true → told .value .group ≡ k → WornAt k
-    worn-why k w d =
-        let (i, t) = worn-first now ss w in
+    stuck-why : (k : ℕ) → isWornOrSpent (told .number) ≡ true → told .value .group ≡ k → StuckAt k
+    stuck-why k w d =
+        let (i, t) = stuck-first now ss w in
         let l : i < p .count = omega (arith, t .first .below, count-after p cs) in
-        let own : isWorn (applyOf (groupAt now (suc i)) (call (suc i)) .number) ≡ true = ap isWorn (store-call-number now ss (suc i) ∙ sym (t .number)) ∙ w in
-        let earlier = worn-passed (groupAt now (suc i)) (symbolAt ss (suc i)) own in
+        let own : isWornOrSpent (applyOf (groupAt now (suc i)) (call (suc i)) .number) ≡ true = ap isWornOrSpent (store-call-number now ss (suc i) ∙ sym (t .number)) ∙ w in
+        let earlier = stuck-passed (groupAt now (suc i)) (symbolAt ss (suc i)) own in
         rw (sym d ∙ t .named) (
           t .taken,
           among-below (p .count) i l,
           each-among (suc i - 1) (λ j m. first-not (numberStored now ss) i (t .first .before) j (omega arith)),
           earlier,
-          worn-shut i l earlier .0 own,
+          stuck-shut i l earlier .0 own,
         )
 
-    worn-where : (k : ℕ) → WornAt k → (isWorn (told .number) ≡ true) × (told .value .group ≡ k)
-    worn-where zero (t, m, b, e, shut) = absurd (false≢true m)
-    worn-where (suc i) (t, m, b, e, shut) =
-        let own : isWorn (numberStored now ss (suc i)) ≡ true = ap isWorn (sym (store-call-number now ss (suc i))) ∙ worn-shut i (among-true (p .count) i m) e .1 shut in
+    stuck-where : (k : ℕ) → StuckAt k → (isWornOrSpent (told .number) ≡ true) × (told .value .group ≡ k)
+    stuck-where zero (t, m, b, e, shut) = absurd (false≢true m)
+    stuck-where (suc i) (t, m, b, e, shut) =
+        let own : isWornOrSpent (numberStored now ss (suc i)) ≡ true = ap isWornOrSpent (sym (store-call-number now ss (suc i))) ∙ stuck-shut i (among-true (p .count) i m) e .1 shut in
         let r = refused-first (suc i) t m (λ z. false≢true (rw z at own)) b in
-        (ap isWorn (r .0) ∙ own, r .1)
+        (ap isWornOrSpent (r .0) ∙ own, r .1)
 
   pub page-claim : PageDemand3 storePageOf p cs
   page-claim =
@@ -228,9 +226,9 @@ module _ (p : Page) (h : HoldsGroups p) (cs : List PageCall) where
         first-refuses = refused-first;
         refused = kept now;
         rivals-stay = λ ss z k e. rival-stays now ss z k;
-        worn-named = named-worn;
+        stuck-named = named-stuck;
         in-no-list = no-list;
-        worn-exactly = λ ss k. (λ w. worn-why ss k (w .0) (w .1), worn-where ss k);
+        stuck-exactly = λ ss k. (λ w. stuck-why ss k (w .0) (w .1), stuck-where ss k);
       }
 
 pub page-demand3 : MeetsPageDemand3 storePageOf

@@ -1,13 +1,15 @@
 -- Wrong page stores that fail the claim. Each is caught on a page of two groups of three cells, neither of them written: one in which symbol 1 is
--- refused as worn, and a new one; the one that takes different n on a page of three cells and four.
+-- refused as worn, and a new one; the one that takes different n on a page of three cells and four; those that mistake the endurance where symbol 1 is refused
+-- as spent by the second group.
 -- Assumes nothing.
 use Prim.Native.Nat.{ℕ, zero, suc, _+_, _-_, _<_}
 use mathlib.Core.Path.{_≡_, refl, ap}
+use mathlib.Core.Logic.{_≢_}
 use mathlib.Core.Bool.{true, cond}
 use mathlib.Core.List.{List, [], _∷_}
 use native.Mathlib.Omega.{arith}
-use lib.Dec.{ltb}
-use lib.ListN.{take}
+use lib.Dec.{eqb, ltb}
+use lib.ListN.{take, replicate}
 use Rattle.order.specs.Refusals as refusals
 use Rattle.order.specs.Refusals.{ifDone, numberOf}
 use Rattle.coordinates.specs.Coordinates.{weight, orderFrom}
@@ -15,10 +17,10 @@ use Rattle.decoder.specs.Decoding.{leaves}
 use Rattle.code.specs.Words.{joined, select, vectorsFrom, vectors, words, K, wordAt}
 use Rattle.code.specs.Symbols.{wordOf}
 use Rattle.group.specs.declared.Group.{Group}
-use Rattle.group.specs.Levels.{level, put, atMost}
-use Rattle.group.specs.Record.{allAtMost, isRow, IsGroup}
+use Rattle.group.specs.Levels.{level, put, atMost, tallied}
+use Rattle.group.specs.Record.{allAtMost, isRow, IsGroup, withUsed}
 use Rattle.push_up.specs.PushUp.{singles, top, floorOver, lift, raise, pushOf, rankPushes, pushes, pulsesIn}
-use Rattle.push_up.specs.WriteAnswer.{raised, fits, pushed}
+use Rattle.push_up.specs.WriteAnswer.{raised, fits, lasts, pushed}
 use Rattle.engine.specs.ReadStore.{storeOf}
 use Rattle.plain_machine.specs.Machine.{applyOf}
 use Rattle.rivals.specs.Rivals.{after, pulsesOf}
@@ -28,17 +30,21 @@ use Rattle.page.specs.Pages.{groupAt, likeFirst, isPage, pageAnswer}
 use Rattle.page_store.specs.StoreAnswer.{symbolAt, takes, numberStored, groupStored, pulsesStored, allStored, noneStored, storePageOf}
 use Rattle.page_laws.specs.PageLists.{PageCall, storePage, PageMachine, among, stands, HoldsGroups, pageStep, pagePulses, ownCall, afterCalls, pulsesOfCalls, callsOf, PageDemand3, MeetsPageDemand3}
 use Rattle.page_laws.proofs.Groups.{of-among}
-use Rattle.page_laws.proofs.Bench.{page, blank, low, four}
+use Rattle.page_laws.proofs.Bench.{page, blank, low, used-up, four}
 
 -- ---- pages of two groups
 
 new-group : IsGroup blank
 unfolding numberOf isRow allAtMost
-new-group = record { passes = refl; levels = refl; caps = refl }
+new-group = record { passes = refl; levels = refl; caps = refl; used = refl }
 
 low-group : IsGroup low
 unfolding numberOf isRow allAtMost
-low-group = record { passes = refl; levels = refl; caps = refl }
+low-group = record { passes = refl; levels = refl; caps = refl; used = refl }
+
+used-up-group : IsGroup used-up
+unfolding numberOf isRow allAtMost
+used-up-group = record { passes = refl; levels = refl; caps = refl; used = refl }
 
 of-two : (P : ℕ → Type 0) → P 1 → P 2 → (k : ℕ) → among 2 k ≡ true → P k
 of-two P a b = of-among 2 P by
@@ -50,7 +56,7 @@ of-two P a b = of-among 2 P by
 
 four-group : IsGroup four
 unfolding numberOf isRow allAtMost
-four-group = record { passes = refl; levels = refl; caps = refl }
+four-group = record { passes = refl; levels = refl; caps = refl; used = refl }
 
 module _ (g h : Group) where
   abbrev two : Page
@@ -65,6 +71,9 @@ first-low = two low blank
 abbrev last-low : Page
 last-low = two blank low
 
+abbrev last-used-up : Page
+last-used-up = two blank used-up
+
 module _ (store : PageMachine) where
   -- one list of calls on one of these pages is enough
   first-fails : (cs : List PageCall) → ¬ (PageDemand3 store first-low cs) → ¬ (MeetsPageDemand3 store)
@@ -73,6 +82,18 @@ module _ (store : PageMachine) where
   last-fails : (cs : List PageCall) → ¬ (PageDemand3 store last-low cs) → ¬ (MeetsPageDemand3 store)
   last-fails cs fault meets = fault (meets last-low (two-held blank low new-group low-group) cs)
 
+  -- where the second group is spent and no group before it refuses, its number is told
+  spent-fails : store last-used-up (1 ∷ 1 ∷ []) .number ≢ 19 → ¬ (MeetsPageDemand3 store)
+  unfolding afterCalls refusals.answer numberOf level put atMost tallied allAtMost isRow singles top floorOver lift raise pushOf rankPushes pushes pulsesIn raised fits lasts pushed storeOf wordOf orderFrom K wordAt words vectors vectorsFrom joined select leaves weight total allOf putEach firstRefusing likeFirst isPage takes pageAnswer numberStored groupStored pulsesStored storePageOf
+  spent-fails fault meets =
+      fault
+      (meets last-used-up (two-held blank used-up new-group used-up-group) [] .first-refuses (1 ∷ 1 ∷ []) 2 refl refl (λ e. omega arith)
+      (of-among 1 (λ j. numberStored last-used-up (1 ∷ 1 ∷ []) j ≡ 0) by) .0)
+    where
+      by : (i : ℕ) → i < 1 → numberStored last-used-up (1 ∷ 1 ∷ []) (suc i) ≡ 0
+      by zero l = refl
+      by (suc i) l = absurd (omega arith)
+
 -- ---- such page stores
 
 -- one that says worn to everything, and blames group 1
@@ -80,7 +101,7 @@ pub quitter : PageMachine
 quitter p ss = record { number = 8; value = noneStored p 1 }
 
 pub quitter-refuted : ¬ (MeetsPageDemand3 quitter)
-unfolding quitter afterCalls refusals.answer numberOf level put atMost allAtMost isRow singles top floorOver lift raise pushOf rankPushes pushes pulsesIn raised fits pushed storeOf wordOf orderFrom K wordAt words vectors vectorsFrom joined select leaves weight total allOf putEach firstRefusing likeFirst isPage takes pageAnswer numberStored groupStored pulsesStored storePageOf
+unfolding quitter afterCalls refusals.answer numberOf level put atMost tallied allAtMost isRow singles top floorOver lift raise pushOf rankPushes pushes pulsesIn raised fits lasts pushed storeOf wordOf orderFrom K wordAt words vectors vectorsFrom joined select leaves weight total allOf putEach firstRefusing likeFirst isPage takes pageAnswer numberStored groupStored pulsesStored storePageOf
 quitter-refuted =
     last-fails quitter []
     (λ d. let e : _≡_ {A = ℕ} 8 0 = d .accepted (0 ∷ 0 ∷ []) .1 (refl, of-two (λ k. numberStored last-low (0 ∷ 0 ∷ []) k ≡ 0) refl refl) in omega arith)
@@ -101,7 +122,7 @@ half-way p ss =
     }
 
 pub half-way-refuted : ¬ (MeetsPageDemand3 half-way)
-unfolding half-way afterCalls refusals.answer numberOf level put atMost allAtMost isRow singles top floorOver lift raise pushOf rankPushes pushes pulsesIn raised fits pushed storeOf wordOf orderFrom K wordAt words vectors vectorsFrom joined select leaves weight total allOf putEach firstRefusing likeFirst isPage takes pageAnswer numberStored groupStored pulsesStored storePageOf
+unfolding half-way afterCalls refusals.answer numberOf level put atMost tallied allAtMost isRow singles top floorOver lift raise pushOf rankPushes pushes pulsesIn raised fits lasts pushed storeOf wordOf orderFrom K wordAt words vectors vectorsFrom joined select leaves weight total allOf putEach firstRefusing likeFirst isPage takes pageAnswer numberStored groupStored pulsesStored storePageOf
 half-way-refuted =
     last-fails half-way []
     (λ d.
@@ -116,7 +137,7 @@ row-first p ss =
     ifDone k (storePageOf p ss) (record { number = 5; value = noneStored p k })
 
 pub row-first-refuted : ¬ (MeetsPageDemand3 row-first)
-unfolding row-first afterCalls refusals.answer numberOf level put atMost allAtMost isRow singles top floorOver lift raise pushOf rankPushes pushes pulsesIn raised fits pushed storeOf wordOf orderFrom K wordAt words vectors vectorsFrom joined select leaves weight total allOf putEach firstRefusing likeFirst isPage takes pageAnswer numberStored groupStored pulsesStored storePageOf
+unfolding row-first afterCalls refusals.answer numberOf level put atMost tallied allAtMost isRow singles top floorOver lift raise pushOf rankPushes pushes pulsesIn raised fits lasts pushed storeOf wordOf orderFrom K wordAt words vectors vectorsFrom joined select leaves weight total allOf putEach firstRefusing likeFirst isPage takes pageAnswer numberStored groupStored pulsesStored storePageOf
 row-first-refuted =
     first-fails row-first []
     (λ d.
@@ -131,7 +152,7 @@ last-counted p ss =
     record { number = t .number; value = record { group = t .value .group; page = t .value .page; pulses = ifDone (t .number) (pulsesStored p ss (p .count)) 0 } }
 
 pub last-counted-refuted : ¬ (MeetsPageDemand3 last-counted)
-unfolding last-counted afterCalls refusals.answer numberOf level put atMost allAtMost isRow singles top floorOver lift raise pushOf rankPushes pushes pulsesIn raised fits pushed storeOf wordOf orderFrom K wordAt words vectors vectorsFrom joined select leaves weight total allOf putEach firstRefusing likeFirst isPage takes pageAnswer numberStored groupStored pulsesStored storePageOf applyOf after pulsesOf stands pageStep pagePulses ownCall pulsesOfCalls callsOf
+unfolding last-counted afterCalls refusals.answer numberOf level put atMost tallied allAtMost isRow singles top floorOver lift raise pushOf rankPushes pushes pulsesIn raised fits lasts pushed storeOf wordOf orderFrom K wordAt words vectors vectorsFrom joined select leaves weight total allOf putEach firstRefusing likeFirst isPage takes pageAnswer numberStored groupStored pulsesStored storePageOf applyOf after pulsesOf stands pageStep pagePulses ownCall pulsesOfCalls callsOf
 last-counted-refuted =
     last-fails last-counted (storePage (0 ∷ 0 ∷ []) ∷ []) (λ d. let e : _≡_ {A = ℕ} 3 6 = d .pulses in omega arith)
 
@@ -145,7 +166,7 @@ first-alone p ss =
     }
 
 pub first-alone-refuted : ¬ (MeetsPageDemand3 first-alone)
-unfolding first-alone afterCalls refusals.answer numberOf level put atMost allAtMost isRow singles top floorOver lift raise pushOf rankPushes pushes pulsesIn raised fits pushed storeOf wordOf orderFrom K wordAt words vectors vectorsFrom joined select leaves weight total allOf putEach firstRefusing likeFirst isPage takes pageAnswer numberStored groupStored pulsesStored storePageOf applyOf after stands pageStep ownCall callsOf
+unfolding first-alone afterCalls refusals.answer numberOf level put atMost tallied allAtMost isRow singles top floorOver lift raise pushOf rankPushes pushes pulsesIn raised fits lasts pushed storeOf wordOf orderFrom K wordAt words vectors vectorsFrom joined select leaves weight total allOf putEach firstRefusing likeFirst isPage takes pageAnswer numberStored groupStored pulsesStored storePageOf applyOf after stands pageStep ownCall callsOf
 first-alone-refuted =
     last-fails first-alone (storePage (0 ∷ 0 ∷ []) ∷ [])
     (λ d. let e : _≡_ {A = ℕ} 0 2 = ap (λ (g : Group). level (g .levels) 1) (d .groups 2 refl) in omega arith)
@@ -158,7 +179,7 @@ loser p ss =
     record { number = t .number; value = record { group = t .value .group; page = record { count = ifDone (t .number) (q .count - 1) (q .count); groups = q .groups }; pulses = t .value .pulses } }
 
 pub loser-refuted : ¬ (MeetsPageDemand3 loser)
-unfolding loser pageStep afterCalls refusals.answer numberOf level put atMost allAtMost isRow singles top floorOver lift raise pushOf rankPushes pushes pulsesIn raised fits pushed storeOf wordOf orderFrom K wordAt words vectors vectorsFrom joined select leaves weight total allOf putEach firstRefusing likeFirst isPage takes pageAnswer numberStored groupStored pulsesStored storePageOf
+unfolding loser pageStep afterCalls refusals.answer numberOf level put atMost tallied allAtMost isRow singles top floorOver lift raise pushOf rankPushes pushes pulsesIn raised fits lasts pushed storeOf wordOf orderFrom K wordAt words vectors vectorsFrom joined select leaves weight total allOf putEach firstRefusing likeFirst isPage takes pageAnswer numberStored groupStored pulsesStored storePageOf
 loser-refuted = last-fails loser (storePage (0 ∷ 0 ∷ []) ∷ []) (λ d. let e : _≡_ {A = ℕ} 1 2 = d .as-many in omega arith)
 
 -- one that takes more symbols than there are groups
@@ -166,7 +187,7 @@ pub lavish : PageMachine
 lavish p ss = storePageOf p (take (p .count) ss)
 
 pub lavish-refuted : ¬ (MeetsPageDemand3 lavish)
-unfolding lavish afterCalls refusals.answer numberOf level put atMost allAtMost isRow singles top floorOver lift raise pushOf rankPushes pushes pulsesIn raised fits pushed storeOf wordOf orderFrom K wordAt words vectors vectorsFrom joined select leaves weight total allOf putEach firstRefusing likeFirst isPage takes pageAnswer numberStored groupStored pulsesStored storePageOf
+unfolding lavish afterCalls refusals.answer numberOf level put atMost tallied allAtMost isRow singles top floorOver lift raise pushOf rankPushes pushes pulsesIn raised fits lasts pushed storeOf wordOf orderFrom K wordAt words vectors vectorsFrom joined select leaves weight total allOf putEach firstRefusing likeFirst isPage takes pageAnswer numberStored groupStored pulsesStored storePageOf
 lavish-refuted = last-fails lavish [] (λ d. let e : _≡_ {A = ℕ} 0 16 = d .no-page (0 ∷ 0 ∷ 0 ∷ []) refl .0 in omega arith)
 
 -- one that takes groups of different n
@@ -174,7 +195,7 @@ pub mixer : PageMachine
 mixer p ss = ifDone (firstRefusing (p .count) (numberStored p ss)) (record { number = 0; value = allStored p ss }) (storePageOf p ss)
 
 pub mixer-refuted : ¬ (MeetsPageDemand3 mixer)
-unfolding mixer afterCalls refusals.answer numberOf level put atMost allAtMost isRow singles top floorOver lift raise pushOf rankPushes pushes pulsesIn raised fits pushed storeOf wordOf orderFrom K wordAt words vectors vectorsFrom joined select leaves weight total allOf putEach firstRefusing likeFirst isPage takes pageAnswer numberStored groupStored pulsesStored storePageOf
+unfolding mixer afterCalls refusals.answer numberOf level put atMost tallied allAtMost isRow singles top floorOver lift raise pushOf rankPushes pushes pulsesIn raised fits lasts pushed storeOf wordOf orderFrom K wordAt words vectors vectorsFrom joined select leaves weight total allOf putEach firstRefusing likeFirst isPage takes pageAnswer numberStored groupStored pulsesStored storePageOf
 mixer-refuted meets =
     let d = meets (two blank four) (two-held blank four new-group four-group) [] in
     let e : _≡_ {A = ℕ} 0 16 = d .no-page (0 ∷ 0 ∷ []) refl .0 in
@@ -185,7 +206,7 @@ pub misnamer : PageMachine
 misnamer p ss = let t = storePageOf p ss in record { number = t .number; value = noneStored (t .value .page) (t .value .group + 1) }
 
 pub misnamer-refuted : ¬ (MeetsPageDemand3 misnamer)
-unfolding misnamer afterCalls refusals.answer numberOf level put atMost allAtMost isRow singles top floorOver lift raise pushOf rankPushes pushes pulsesIn raised fits pushed storeOf wordOf orderFrom K wordAt words vectors vectorsFrom joined select leaves weight total allOf putEach firstRefusing likeFirst isPage takes pageAnswer numberStored groupStored pulsesStored storePageOf
+unfolding misnamer afterCalls refusals.answer numberOf level put atMost tallied allAtMost isRow singles top floorOver lift raise pushOf rankPushes pushes pulsesIn raised fits lasts pushed storeOf wordOf orderFrom K wordAt words vectors vectorsFrom joined select leaves weight total allOf putEach firstRefusing likeFirst isPage takes pageAnswer numberStored groupStored pulsesStored storePageOf
 misnamer-refuted =
     first-fails misnamer []
     (λ d.
@@ -200,5 +221,24 @@ spender p ss =
     record { number = t .number; value = record { group = t .value .group; page = t .value .page; pulses = total (p .count) (pulsesStored p ss) } }
 
 pub spender-refuted : ¬ (MeetsPageDemand3 spender)
-unfolding spender afterCalls refusals.answer numberOf level put atMost allAtMost isRow singles top floorOver lift raise pushOf rankPushes pushes pulsesIn raised fits pushed storeOf wordOf orderFrom K wordAt words vectors vectorsFrom joined select leaves weight total allOf putEach firstRefusing likeFirst isPage takes pageAnswer numberStored groupStored pulsesStored storePageOf
+unfolding spender afterCalls refusals.answer numberOf level put atMost tallied allAtMost isRow singles top floorOver lift raise pushOf rankPushes pushes pulsesIn raised fits lasts pushed storeOf wordOf orderFrom K wordAt words vectors vectorsFrom joined select leaves weight total allOf putEach firstRefusing likeFirst isPage takes pageAnswer numberStored groupStored pulsesStored storePageOf
 spender-refuted = last-fails spender [] (λ d. let e : _≡_ {A = ℕ} 3 0 = d .refused (1 ∷ 1 ∷ []) (λ e. omega arith) .1 in omega arith)
+
+-- one that stores as if no cell had taken a pulse
+pub tireless : PageMachine
+tireless p ss =
+    storePageOf
+    (record { count = p .count; groups = putEach (p .count) (λ k. withUsed (groupAt p k) (replicate 12 0)) (p .groups) })
+    ss
+
+pub tireless-refuted : ¬ (MeetsPageDemand3 tireless)
+unfolding tireless afterCalls refusals.answer numberOf level put atMost tallied allAtMost isRow singles top floorOver lift raise pushOf rankPushes pushes pulsesIn raised fits lasts pushed storeOf wordOf orderFrom K wordAt words vectors vectorsFrom joined select leaves weight total allOf putEach firstRefusing likeFirst isPage takes pageAnswer numberStored groupStored pulsesStored storePageOf
+tireless-refuted = spent-fails tireless (λ e. let z : _≡_ {A = ℕ} 0 19 = e in omega arith)
+
+-- one that says worn where a group is spent
+pub wearier : PageMachine
+wearier p ss = let t = storePageOf p ss in record { number = cond (eqb (t .number) 19) 8 (t .number); value = t .value }
+
+pub wearier-refuted : ¬ (MeetsPageDemand3 wearier)
+unfolding wearier afterCalls refusals.answer numberOf level put atMost tallied allAtMost isRow singles top floorOver lift raise pushOf rankPushes pushes pulsesIn raised fits lasts pushed storeOf wordOf orderFrom K wordAt words vectors vectorsFrom joined select leaves weight total allOf putEach firstRefusing likeFirst isPage takes pageAnswer numberStored groupStored pulsesStored storePageOf
+wearier-refuted = spent-fails wearier (λ e. let z : _≡_ {A = ℕ} 8 19 = e in omega arith)

@@ -24,14 +24,14 @@ use Rattle.engine.specs.ReadStore.{storeOf}
 use Rattle.engine.specs.Scrub.{Step, quiet}
 use Rattle.plain_machine.specs.Machine.{applyOf}
 use Rattle.plain_machine.proofs.Machine.{accept, apply-number, apply-value}
-use Rattle.rivals.specs.Rivals.{Rival, Moves, latest, after, pulsesOf, Course, rest, next}
+use Rattle.rivals.specs.Rivals.{Rival, Moves, latest, isWornOrSpent, after, pulsesOf, Course, rest, next}
 use Rattle.page.specs.declared.Page.{Page}
 use Rattle.page.specs.Groups.{total, putEach}
 use Rattle.page.specs.Pages.{groupAt}
 use Rattle.page_store.specs.StoreAnswer.{symbolAt, takes, AfterStore, numberStored, groupStored, pulsesStored, allStored, noneStored, storePageOf}
 use Rattle.page_store.proofs.Storing.{store-not}
 use Rattle.page.proofs.Pages.{back-one, page-done, page-refused}
-use Rattle.page_laws.specs.PageLists.{PageCall, onGroup, storePage, readPage, among, putGroup, isWorn, stands, storeCall, HoldsGroups, pageStep, pagePulses, ownCall}
+use Rattle.page_laws.specs.PageLists.{PageCall, onGroup, storePage, readPage, among, putGroup, stands, storeCall, HoldsGroups, pageStep, pagePulses, ownCall}
 use Rattle.page_laws.proofs.Groups.{among-true, among-below, total-same, total-none, total-one, length-put, put-at, FirstAt, no-first, none-or-first}
 
 -- ---- a page of groups has places for them
@@ -118,6 +118,10 @@ step-length p readPage = refl
 
 -- ---- a page store that went through, and one that did not
 
+-- worn or spent is refused
+stuck-refused : (k : ℕ) → isWornOrSpent k ≡ true → k ≢ 0
+stuck-refused k w z = false≢true (rw z at w)
+
 zero-or : (k : ℕ) → (k ≡ 0) ⊎ (k ≢ 0)
 zero-or zero = inl refl
 zero-or (suc k) = inr (λ e. absurd (omega arith))
@@ -149,9 +153,9 @@ module _ (p : Page) (ss : List ℕ) where
     pub named : told .value .group ≡ suc i
     pub number : told .number ≡ numberStored p ss (suc i)
 
-  -- so it is where it is refused as worn
-  pub worn-first : isWorn (told .number) ≡ true → (i : ℕ) × RefusedAt i
-  worn-first w = go (answered p ss)
+  -- so it is where it is refused as worn or as spent
+  pub stuck-first : isWornOrSpent (told .number) ≡ true → (i : ℕ) × RefusedAt i
+  stuck-first w = go (answered p ss)
     where
       go : Answered p ss → (i : ℕ) × RefusedAt i
       go (no-page t e) = absurd (false≢true (rw e at w))
@@ -160,10 +164,10 @@ module _ (p : Page) (ss : List ℕ) where
           (i, record { taken = t; first = h; named = ap (λ (t : Told AfterStore). t .value .group) e; number = ap (λ (t : Told AfterStore). t .number) e })
 
   -- that is the number of the store, as a call on the group
-  pub worn-store : isWorn (told .number) ≡ true
+  pub stuck-store : isWornOrSpent (told .number) ≡ true
       → let k = told .value .group in (among (p .count) k ≡ true) × (applyOf (groupAt p k) (storeCall (symbolAt ss k)) .number ≡ told .number)
-  worn-store w =
-      let (i, t) = worn-first w in
+  stuck-store w =
+      let (i, t) = stuck-first w in
       rw (t .named) (among-below (p .count) i (t .first .below), store-call-number p ss (suc i) ∙ sym (t .number))
 
   -- ---- in which lists it stands
@@ -176,15 +180,15 @@ module _ (p : Page) (ss : List ℕ) where
   unfolding ownCall
   own-not k e = rw e
 
-  pub worn-stands : isWorn (told .number) ≡ true → stands told (told .value .group) ≡ true
+  pub stuck-stands : isWornOrSpent (told .number) ≡ true → stands told (told .value .group) ≡ true
   unfolding stands
-  worn-stands w = rw (eqb-true (told .number) 8 w) (eq-eqb (told .value .group) (told .value .group) refl)
+  stuck-stands w = picked-zeros (told .number) true _ (stuck-refused (told .number) w) ∙ rw w (eq-eqb (told .value .group) (told .value .group) refl)
 
-  pub other-not : isWorn (told .number) ≡ true → (j : ℕ) → j ≢ told .value .group → stands told j ≡ false
+  pub other-not : isWornOrSpent (told .number) ≡ true → (j : ℕ) → j ≢ told .value .group → stands told j ≡ false
   unfolding stands
-  other-not w j d = rw (eqb-true (told .number) 8 w) (ne-eqb (told .value .group) j (λ e. d (sym e)))
+  other-not w j d = picked-zeros (told .number) true _ (stuck-refused (told .number) w) ∙ rw w (ne-eqb (told .value .group) j (λ e. d (sym e)))
 
-  pub not-stands : told .number ≢ 0 → isWorn (told .number) ≡ false → (k : ℕ) → stands told k ≡ false
+  pub not-stands : told .number ≢ 0 → isWornOrSpent (told .number) ≡ false → (k : ℕ) → stands told k ≡ false
   unfolding stands
   not-stands r w k = picked-zeros (told .number) true _ r ∙ rw w
 
@@ -192,17 +196,17 @@ module _ (p : Page) (ss : List ℕ) where
   unfolding stands
   through-stands k z = rw z
 
-  stands-as-worn : (k : ℕ) → told .number ≢ 0 → stands told k ≡ true → (isWorn (told .number) ≡ true) × (told .value .group ≡ k)
+  stands-as-stuck : (k : ℕ) → told .number ≢ 0 → stands told k ≡ true → (isWornOrSpent (told .number) ≡ true) × (told .value .group ≡ k)
   unfolding stands
-  stands-as-worn k r e =
-      let t = both (isWorn (told .number)) (eqb (told .value .group) k) (sym (picked-zeros (told .number) true _ r) ∙ e) in
+  stands-as-stuck k r e =
+      let t = both (isWornOrSpent (told .number)) (eqb (told .value .group) k) (sym (picked-zeros (told .number) true _ r) ∙ e) in
       (t .0, eqb-true (told .value .group) k (t .1))
 
   -- its call in the list of a group, if it has one, is refused
   own-refused : (k : ℕ) → told .number ≢ 0 → stands told k ≡ true → applyOf (groupAt p k) (storeCall (symbolAt ss k)) .number ≢ 0
   own-refused k r e z =
-      let t = stands-as-worn k r e in
-      r (sym (rw (t .1) at (worn-store (t .0) .1)) ∙ z)
+      let t = stands-as-stuck k r e in
+      r (sym (rw (t .1) at (stuck-store (t .0) .1)) ∙ z)
 
 -- a list of one call or none, where the call would be refused
 one-refused : (g : Group) (c : Call) (b : Bool) → (b ≡ true → applyOf g c .number ≢ 0)

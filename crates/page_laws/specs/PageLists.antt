@@ -8,11 +8,10 @@
 --   PageMachine         the claim is about it: it answers a page store
 --   among n k           k is one of 1, 2, .., n
 --   putGroup p k g      the page with g as its group k
---   isWorn number       the number of a store that is refused as worn
---   stands t k          a page store with the answer t stands in the list of group k: it went through, or it is refused as worn and names group k
+--   stands t k          a page store with the answer t stands in the list of group k: it went through, or it is refused as worn or as spent and names group k
 --   storeCall s         the store of a symbol, as a call on one group
 --   HoldsGroups p       each of the page's groups is a group
---   OpenedPage n p      a freshly opened page: 1 to 8 groups, each as an accepted open of n cells returns it
+--   OpenedPage n e p    a freshly opened page: 1 to 8 groups, each as an accepted open of n cells with the endurance e returns it
 --   pageStep, pagePulses    the page after a call, and the pulses of its answer. A call on a group that the page does not have changes nothing
 --   ownCall k p c       what the call c on the page p is in the list of group k: one call, or none. A page read, which changes nothing, is none
 --   afterCalls, pulsesOfCalls    the page after the calls, each handed the page as the call before left it, and what their answers add up to
@@ -36,7 +35,7 @@ use Rattle.plain_machine.specs.declared.Kind.the-variants.{Store}
 use Rattle.sharing.specs.Shared.{plainTarget}
 use Rattle.plain_machine.specs.declared.Call.{Call}
 use Rattle.plain_machine.specs.Machine.{target, earlierChecks, applyOf}
-use Rattle.rivals.specs.Rivals.{Rival, latest, after, pulsesOf, Course, plain, Raisable, Demand3}
+use Rattle.rivals.specs.Rivals.{Rival, latest, isWornOrSpent, after, pulsesOf, Course, plain, Raisable, Demand3}
 use Rattle.page.specs.declared.Page.{Page}
 use Rattle.page.specs.Groups.{total}
 use Rattle.page.specs.Pages.{groupAt}
@@ -56,11 +55,8 @@ among n k = leb 1 k && leb k n
 unfoldable pub putGroup : Page → ℕ → Group → Page
 putGroup p k g = record { count = p .count; groups = set (p .groups) (k - 1) g }
 
-abbrev pub isWorn : ℕ → Bool
-isWorn number = eqb number 8
-
 unfoldable pub stands : Told AfterStore → ℕ → Bool
-stands t k = ifDone (t .number) true (isWorn (t .number) && eqb (t .value .group) k)
+stands t k = ifDone (t .number) true (isWornOrSpent (t .number) && eqb (t .value .group) k)
 
 abbrev pub storeCall : ℕ → Call
 storeCall s = record { kind = Store s; target = plainTarget noOrder }
@@ -68,11 +64,11 @@ storeCall s = record { kind = Store s; target = plainTarget noOrder }
 abbrev pub HoldsGroups : Page → Type 0
 HoldsGroups p = (k : ℕ) → among (p .count) k ≡ true → IsGroup (groupAt p k)
 
-pub record OpenedPage (n : ℕ) (p : Page) : Type 0 where
-  pub opens : openOf n .number ≡ 0
+pub record OpenedPage (n e : ℕ) (p : Page) : Type 0 where
+  pub opens : openOf n e .number ≡ 0
   pub least : 1 ≤ p .count
   pub most : p .count ≤ 8
-  pub groups : (k : ℕ) → among (p .count) k ≡ true → groupAt p k ≡ openOf n .value
+  pub groups : (k : ℕ) → among (p .count) k ≡ true → groupAt p k ≡ openOf n e .value
 
 module _ (store : PageMachine) where
   unfoldable pub pageStep : Page → PageCall → Page
@@ -134,21 +130,21 @@ module _ (store : PageMachine) where
     pub rivals-stay : (ss : List ℕ) → let now = afterCalls p cs in
         store now ss .number ≢ 0 → (k : ℕ) → among (p .count) k ≡ true → (q : Group) (r : Rival) (rs : List Rival)
         → Course applyOf (groupAt now k) q r (ownCall k now (storePage ss)) rs → latest r rs ≡ r
-    -- refused as worn, it is a worn store in the list of the group that it names, and in that list alone
-    pub worn-named : (ss : List ℕ) → let now = afterCalls p cs in let k = store now ss .value .group in let c = storeCall (symbolAt ss k) in
-        isWorn (store now ss .number) ≡ true
+    -- refused as worn or as spent, it is such a store in the list of the group that it names, and in that list alone
+    pub stuck-named : (ss : List ℕ) → let now = afterCalls p cs in let k = store now ss .value .group in let c = storeCall (symbolAt ss k) in
+        isWornOrSpent (store now ss .number) ≡ true
         → (among (p .count) k ≡ true)
         × (ownCall k now (storePage ss) ≡ c ∷ [])
         × (applyOf (groupAt now k) c .number ≡ store now ss .number)
         × ((j : ℕ) → j ≢ k → ownCall j now (storePage ss) ≡ [])
     -- refused otherwise, it stands in no list
     pub in-no-list : (ss : List ℕ) → let now = afterCalls p cs in
-        store now ss .number ≢ 0 → isWorn (store now ss .number) ≡ false → (k : ℕ) → ownCall k now (storePage ss) ≡ []
-    -- it is refused as worn with group k exactly when there is one symbol a group of a page, no group before k refuses its own, group k passes the
-    -- earlier checks, and no rival of group k so far can be raised to show the symbol's codeword within the caps
-    pub worn-exactly : (ss : List ℕ) (k : ℕ)
+        store now ss .number ≢ 0 → isWornOrSpent (store now ss .number) ≡ false → (k : ℕ) → ownCall k now (storePage ss) ≡ []
+    -- it is refused as worn or as spent with group k exactly when there is one symbol a group of a page, no group before k refuses its own, group k passes
+    -- the earlier checks, and no rival of group k so far can be raised to show the symbol's codeword within the caps and the endurance
+    pub stuck-exactly : (ss : List ℕ) (k : ℕ)
         → let now = afterCalls p cs in let g = groupAt p k in let own = callsOf k p cs in let c = storeCall (symbolAt ss k) in
-        ((isWorn (store now ss .number) ≡ true) × (store now ss .value .group ≡ k))
+        ((isWornOrSpent (store now ss .number) ≡ true) × (store now ss .value .group ≡ k))
         ↔ ((takes now ss ≡ true)
         × (among (p .count) k ≡ true)
         × ((j : ℕ) → among (k - 1) j ≡ true → numberStored now ss j ≡ 0)

@@ -40,7 +40,7 @@ module _ (g : Group) (s : ℕ) where
       let t = singles (wordOf (g .n) s) in
       let target = order-target (g .n) (wordOf (g .n) s) (order-of-any (coordinateAt (wordAt (g .n) s)) (g .n)) in
       let program = counted-program true g t target (omega (arith, twelve, checked-size g d)) in
-      let row = row-below 4095 (g .n) (at-most-true (raised g t) (g .caps) (push-held g t f)) (checked-caps g d) in
+      let row = row-below 4095 (g .n) (at-most-true (raised g t) (g .caps) (push-held g t f .0)) (checked-caps g d) in
       omega (arith, twelve, counted-pulses true g t, program .pulses, rises-most (g .levels) (raised g t) (row-true 4095 (g .n) (raised g t) row))
 
   pub store-pulses : length (storeOf g s .value .group .levels) ≡ 12 → storeOf g s .value .pulses ≤ 49140

@@ -1,4 +1,4 @@
--- The eight calls as one answer each: its checks, what it carries where all of them hold, when worn is given, and that the pushes that an
+-- The eight calls as one answer each: its checks, what it carries where all of them hold, when worn or spent is given, and that the pushes that an
 -- answer carries are a push program to the levels that it leaves, and its pulses the sum of the rises.
 -- Assumes nothing.
 use Prim.Native.Nat.{ℕ, zero, suc, _-_, _≤_, zero-le}
@@ -9,11 +9,11 @@ use mathlib.Core.Option.{none}
 use native.Mathlib.Omega.{arith}
 use lib.ListN.{length, replicate}
 use Rattle.order.specs.declared.Refusal.{Refusal}
-use Rattle.order.specs.declared.Refusal.the-variants.{ListShort, NoOrder, RankSizes, Worn}
+use Rattle.order.specs.declared.Refusal.the-variants.{ListShort, NoOrder, RankSizes}
 use Rattle.order.specs.Refusals.{numberOf, ifDone, Told, answer}
 use Rattle.order.specs.Cells.{isOrder}
 use Rattle.order.specs.Order.{listed}
-use Rattle.order.proofs.Refusals.{check-fails, check-held, later-decide, all-held}
+use Rattle.order.proofs.Refusals.{check-held, later-decide, all-held}
 use Rattle.order.proofs.Check.{order-parts}
 use Rattle.coordinates.specs.Conversion.{coordinateAt}
 use Rattle.coordinates.proofs.RoundTrip.{order-of-any}
@@ -25,7 +25,7 @@ use Rattle.group.specs.Levels.{put, AtMost, rises, leaked}
 use Rattle.push_up.specs.declared.Push.{Push}
 use Rattle.push_up.specs.PushUp.{singles, Shows, pulsesIn}
 use Rattle.group.specs.Record.{groupChecks, IsGroup, withLevels, withCaps, erased}
-use Rattle.push_up.specs.WriteAnswer.{Program, writeChecks, pushArray, raised, fits, pushChecks, pushed, unpushed, writeOf}
+use Rattle.push_up.specs.WriteAnswer.{Program, writeChecks, pushArray, raised, fits, lasts, pushChecks, pushed, unpushed, writeOf}
 use Rattle.changes.specs.Changes.{cellChecks, wearChecks, leakOf, wearOf, eraseOf}
 use Rattle.group.proofs.Levels.{at-most-refl, at-most-true, rises-down, leaked-below}
 use Rattle.group.proofs.Checks.{checked-size}
@@ -180,7 +180,7 @@ pub apply-group : (g : Group) (c : Call) → IsGroup g → IsGroup (applyOf g c 
 unfolding applyOf
 apply-group g c h = group-by g (c .target) (c .kind) h
 
--- ---- worn: past the earlier checks, the caps decide
+-- ---- worn and spent: past the earlier checks, the caps and the endurance decide
 
 module _ (g : Group) (c : Call) (w : writes (c .kind) ≡ true) where
   last : List (Bool × Refusal)
@@ -190,20 +190,21 @@ module _ (g : Group) (c : Call) (w : writes (c .kind) ≡ true) where
   unfolding last
   split = ap (λ (b : Bool). numberOf (earlierChecks g c ++ cond b last [])) w
 
-  -- a write that is done passed the earlier checks, and no new level is above its cap
-  pub done-checks : numberOf (checks g c) ≡ 0 → (numberOf (earlierChecks g c) ≡ 0) × AtMost (raised g (target g c)) (g .caps)
-  unfolding last fits
-  done-checks e =
-      let t = all-held last (earlierChecks g c) (sym split ∙ e) in
-      (t .0, at-most-true _ _ (push-held g (target g c) (t .1)))
+  pub last-decide : numberOf (earlierChecks g c) ≡ 0 → numberOf (checks g c) ≡ numberOf (pushChecks g (target g c))
+  unfolding last
+  last-decide e = split ∙ later-decide last (earlierChecks g c) e
 
   pub done-pushes : numberOf (earlierChecks g c) ≡ 0 → numberOf (pushChecks g (target g c)) ≡ 0 → numberOf (checks g c) ≡ 0
-  unfolding last
-  done-pushes e f = split ∙ later-decide last (earlierChecks g c) e ∙ f
+  done-pushes e f = last-decide e ∙ f
 
-  pub worn-beyond : numberOf (earlierChecks g c) ≡ 0 → fits g (target g c) ≡ false → numberOf (checks g c) ≡ 8
+  -- a write that is done passed them all: no new level is above its cap, and the endurance lasts
+  pub done-checks : numberOf (checks g c) ≡ 0 → (numberOf (earlierChecks g c) ≡ 0) × (numberOf (pushChecks g (target g c)) ≡ 0)
   unfolding last
-  worn-beyond e f = split ∙ later-decide last (earlierChecks g c) e ∙ check-fails Worn [] f
+  done-checks e = all-held last (earlierChecks g c) (sym split ∙ e)
+
+  pub done-held : numberOf (checks g c) ≡ 0 → AtMost (raised g (target g c)) (g .caps) × (lasts g (target g c) ≡ true)
+  unfolding fits
+  done-held e = let t = push-held g (target g c) (done-checks e .1) in (at-most-true _ _ (t .0), t .1)
 
 -- ---- targets
 

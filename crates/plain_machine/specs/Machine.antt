@@ -6,8 +6,8 @@
 --   marks k             whether the group is written after such a call: a shared write clears the mark. Of another call it says nothing
 --   target g c          the target that such a call is to show, the cells of each rank: one cell a rank, but for a shared write. Another call has the empty
 --                       target. The rank sizes beside a call are for a shared write alone
---   earlierChecks g c   the checks of a call that run before 8, in the order in which they run
---   checks g c          all of them: a call that raises cells is checked for 8 last
+--   earlierChecks g c   the checks of a call that run before 8 and 19, in the order in which they run
+--   checks g c          all of them: a call that raises cells is checked for 8 and then for 19 last
 --   applyOf g c         the answer to `apply`: one call of the plain machine
 --   targetBy, earlierBy, checksBy, applyBy    the same by the target beside the call and its kind
 --   afterProgram t s    the machine's answer to a write or a shared write, where s is 0, or to a store of the symbol s

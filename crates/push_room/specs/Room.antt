@@ -2,9 +2,9 @@
 -- (g): a shared write into such a list.
 --
 --   roomChecks g room later   the checks 1, 2, 10, and then the later ones
---   intoChecks g o room       the checks of a write into a list of so many places: 1, 2, 10, 4, 8
+--   intoChecks g o room       the checks of a write into a list of so many places: 1, 2, 10, 4, 8, 19
 --   writeIntoOf g o room      what such a write answers, with its pushes by value: that of a write, but that 10 is checked too
---   sharedIntoChecks, writeSharedIntoOf    the same of a shared write: 1, 2, 10, 18, 4, 8
+--   sharedIntoChecks, writeSharedIntoOf    the same of a shared write: 1, 2, 10, 18, 4, 8, 19
 use Prim.Native.Nat.{ℕ, _-_}
 use mathlib.Core.Bool.{Bool, true, false}
 use mathlib.Core.List.{List, _∷_, _++_}

@@ -8,3 +8,4 @@ pub mod Writes
 pub mod Stairs
 pub mod OneMore
 pub mod FullCaps
+pub mod Rises

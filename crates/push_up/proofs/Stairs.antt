@@ -1,7 +1,8 @@
 -- Levels that fall by one along an order: it shows in them, so that a group with full caps has room for it.
 --
 --   stairs h n xs   levels h, h - 1, .. along xs, in twelve places
---   stairs-fit      a group with full caps whose levels are nowhere above such levels can be raised to show xs
+--   stairs-fit      a group with full caps whose levels are nowhere above such levels has room to be raised to show xs
+--   stairs-last     and where its cells have taken no pulses, the endurance lasts from h on
 -- Assumes nothing.
 use Prim.Native.Nat.{ℕ, zero, suc, _-_, _≤_, _<_}
 use mathlib.Core.Path.{_≡_, ap, _∙_}
@@ -9,18 +10,20 @@ use mathlib.Core.Bool.{true}
 use mathlib.Core.List.{List, [], _∷_, _++_}
 use native.Mathlib.Omega.{arith}
 use lib.ListN.{length, getD, replicate, length-append, length-replicate, List·getD-append}
-use Rattle.order.specs.Refusals.{numberOf}
 use Rattle.order.specs.Cells.{tabulate, placeOf, isOrder}
 use Rattle.order.proofs.Cells.{IsOrder, order-true, order-range}
 use Rattle.order.proofs.Tabulate.{length-tabulate, getD-tabulate}
-use Rattle.order.proofs.Places.{own-place}
+use Rattle.order.proofs.Places.{own-place, cell-stands}
 use Rattle.group.specs.declared.Group.{Group}
 use Rattle.group.specs.Levels.{level, AtMost, empty, more}
+use Rattle.group.specs.Record.{allAtMost}
 use Rattle.group.proofs.Levels.{at-most-refl}
+use Rattle.group.proofs.LevelRows.{all-below, row-true, full-row}
+use Rattle.group.proofs.Tallies.{tallied-fresh}
 use Rattle.push_up.specs.PushUp.{singles, Shows}
-use Rattle.push_up.specs.WriteAnswer.{pushChecks}
+use Rattle.push_up.specs.WriteAnswer.{fits, lasts}
 use Rattle.push_up.proofs.Orders.{Falling, falling-shows}
-use Rattle.push_up.proofs.Writes.{push-holds, fits-where}
+use Rattle.push_up.proofs.Writes.{fits-where, lasts-where}
 
 unfoldable pub stairs : ℕ → ℕ → List ℕ → List ℕ
 stairs h n xs = tabulate n (λ k. suc h - placeOf xs (suc k)) ++ replicate (12 - n) 0
@@ -72,6 +75,18 @@ module _ (n : ℕ) (xs : List ℕ) (p : isOrder n xs ≡ true) (h : ℕ) where
   unfolding stairs
   stairs-low l = at-most-full n 4095 _ (replicate (12 - n) 0) (λ k m. omega arith)
 
+  stairs-under : (e : ℕ) → h ≤ e → allAtMost e (stairs h n xs) ≡ true
+  unfolding stairs placeOf
+  stairs-under e l =
+      all-below e (at-most-full n e (λ k. suc h - placeOf xs (suc k)) (replicate (12 - n) 0) (λ k m. omega (arith, cell-stands n xs o (suc k) (omega arith) (omega arith) .place)))
+      (row-true e n _ (full-row e n))
+
   pub stairs-fit : (g : Group) → g .caps ≡ replicate n 4095 ++ replicate (12 - n) 0 → AtMost (g .levels) (stairs h n xs) → n ≤ suc h → h < 4095
-      → numberOf (pushChecks g (singles xs)) ≡ 0
-  stairs-fit g full low high l = push-holds g (singles xs) (fits-where g (singles xs) (stairs h n xs) low (stairs-show high) (rw full (stairs-low l)))
+      → fits g (singles xs) ≡ true
+  stairs-fit g full low high l = fits-where g (singles xs) (stairs h n xs) low (stairs-show high) (rw full (stairs-low l))
+
+  -- and cells that have taken no pulses come to none above the highest of these levels
+  pub stairs-last : (g : Group) → g .used ≡ replicate 12 0 → AtMost (g .levels) (stairs h n xs) → n ≤ suc h → n ≤ 12 → h ≤ g .endurance → lasts g (singles xs) ≡ true
+  stairs-last g none low high m l =
+      lasts-where g (singles xs) (stairs h n xs) low (stairs-show high)
+      (rw none (all-below (g .endurance) (tallied-fresh 12 low (length-stairs m)) (stairs-under (g .endurance) l)))

@@ -14,6 +14,7 @@
 --   callOf kind         the call of the machine that a record asks for: none is a write, so the order beside it is the all-zero one
 --   afterApply t        what is kept of an answer of the machine
 --   afterOpen g t       what is kept of the answer to an open: a refused one keeps the group it had
+--   opening n           the answer to the open that a record asks for: its group has the endurance 1,000,000
 --   stepBy g q          the answer to a request: a bad record is refused 12
 --   stepOf g r          the answer to a record, where the group is g
 use Prim.Native.Nat.{ℕ, zero, suc, _+_, _*_, _/_}
@@ -102,9 +103,12 @@ afterApply t =
 abbrev pub afterOpen : Group → Told Group → Told Answer
 afterOpen g t = record { number = t .number; value = groupAlone (ifDone (t .number) (t .value) g) }
 
+abbrev pub opening : ℕ → Told Group
+opening n = openOf n 1000000
+
 abbrev pub stepBy : Group → Request → Told Answer
 stepBy g Bad = record { number = refusalNumber BadRecord; value = groupAlone g }
-stepBy g (Open n) = afterOpen g (openOf n)
+stepBy g (Open n) = afterOpen g (opening n)
 stepBy g (Apply kind) = afterApply (applyOf g (callOf kind))
 
 unfoldable pub stepOf : Group → CallRecord → Told Answer

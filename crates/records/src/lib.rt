@@ -8,9 +8,11 @@ use plain_machine::Call;
 use plain_machine::Kind;
 ghost use mathlib.Core.Path.{_≡_};
 ghost use Rattle.order.specs.Refusals.{outcomeNumber};
-ghost use Rattle.changes.specs.Changes.{openOf};
 ghost use Rattle.plain_machine.specs.Machine.{applyOf};
-ghost use Rattle.records.specs.Records.{usesCell, unusedZero, requestOf, toldAnswered, groupAlone, callOf, afterApply, afterOpen, stepOf};
+ghost use Rattle.records.specs.Records.{usesCell, unusedZero, requestOf, toldAnswered, groupAlone, callOf, afterApply, afterOpen, opening, stepOf};
+
+// The endurance of every group that a record opens.
+const ENDURANCE: u32 = 1000000;
 
 // A call record: its two zero bytes are one field.
 pub struct CallRecord {
@@ -98,11 +100,11 @@ fn uses_cell(kind: u8) -> bool
     kind == 4
 }
 
-// A new group, or the group that there was.
+// A new group, or the group that there was. A call record names no endurance.
 fn open(g: Group, n: u32) -> Answered
-    ensures { λ a. ⌜ toldAnswered a ≡ afterOpen g (openOf n) ⌝ }
+    ensures { λ a. ⌜ toldAnswered a ≡ afterOpen g (opening n) ⌝ }
 {
-    let opened = changes::open(n as usize);
+    let opened = changes::open(n as usize, ENDURANCE);
     let outcome = opened.outcome;
     let fresh = opened.group;
     if let Outcome::Done = outcome {

@@ -119,9 +119,10 @@ module _ (run : Machine) where
 
   -- its own course ends at its group
   own-end : (g : Group) (q : ℕ) (cs : List Call)
-      → let r = latest (standing g q) (own run g q cs) in (r .levels ≡ after run g cs .levels) × (r .caps ≡ after run g cs .caps)
+      → let r = latest (standing g q) (own run g q cs) in
+      (r .levels ≡ after run g cs .levels) × (r .caps ≡ after run g cs .caps) × (r .used ≡ after run g cs .used) × (r .endurance ≡ after run g cs .endurance)
   unfolding own latest after
-  own-end g q [] = (refl, refl)
+  own-end g q [] = (refl, refl, refl, refl)
   own-end g q (c ∷ cs) = own-end (run g c .value .group) _ cs
 
   -- ---- the theorem
@@ -163,11 +164,22 @@ module _ (run : Machine) where
     unfolding entrant
     same-caps = sym (own-end start 0 cs .1) ∙ side start group cs (own run start 0 cs) their-rival .caps
 
+    same-used : after run start cs .used ≡ after applyOf start cs .used
+    unfolding entrant
+    same-used =
+        let above = rw (our-end start 0 cs group) at (theirs .least-used (own applyOf start 0 cs) our-rival) in
+        let below = rw (own-end start 0 cs .2) at (ours .least-used (own run start 0 cs) their-rival) in
+        at-most-antisym above below
+
+    same-endurance : after run start cs .endurance ≡ after applyOf start cs .endurance
+    unfolding entrant
+    same-endurance = sym (own-end start 0 cs .3) ∙ side start group cs (own run start 0 cs) their-rival .endurance
+
     pub same-group : after run start cs ≡ after applyOf start cs
     same-group =
         let size = checked-n _ _ same-checks passes in
         let mark = checked-mark _ _ same-checks passes in
-        λ i. record { n = size i; levels = same-levels i; caps = same-caps i; written = mark i }
+        λ i. record { n = size i; levels = same-levels i; caps = same-caps i; used = same-used i; endurance = same-endurance i; written = mark i }
 
     pub same-pulses : pulsesOf run start cs ≡ pulsesOf applyOf start cs
     same-pulses =

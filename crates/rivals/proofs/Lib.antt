@@ -2,6 +2,7 @@ pub mod Bench
 pub mod Climb
 pub mod CostRise
 pub mod WriteRise
+pub mod NoDearer
 pub mod Demand3
 pub mod Determined
 pub mod Valid

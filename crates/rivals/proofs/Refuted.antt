@@ -1,10 +1,10 @@
 -- Wrong machines that fail demand 3. Each is caught on a group of three cells, just opened: one by a read, which the plain machine refuses 6, the
--- others by the order [1, 2, 3]: at once, at that order again or [1, 3, 2] after it, at a read after it, after a cell is worn, or into a list of one
--- place, which the plain machine refuses 10; and two by a shared write of cells 1 and 2 above cell 3. At a write of [1, 2, 3] by value the plain machine goes to levels 2, 1, 0 for 3 pulses, and that course is
+-- others by the order [1, 2, 3]: at once, at that order again or [1, 3, 2] after it, at a read after it, after a cell is worn, again after an erase, or into a
+-- list of one place, which the plain machine refuses 10; and two by a shared write of cells 1 and 2 above cell 3. At a write of [1, 2, 3] by value the plain machine goes to levels 2, 1, 0 for 3 pulses, and that course is
 -- one of the rivals of every machine that accepts that write.
 -- Assumes nothing.
 use Prim.Native.Nat.{ℕ, suc, _+_, _<_}
-use mathlib.Core.Path.{_≡_, refl, sym, _∙_}
+use mathlib.Core.Path.{_≡_, refl, sym, ap, _∙_}
 use mathlib.Core.Bool.{true, false, cond, _&&_}
 use mathlib.Core.List.{List, [], _∷_, flatten}
 use native.Mathlib.Omega.{arith}
@@ -16,12 +16,12 @@ use Rattle.order.specs.Cells.{tabulate, eachOnce, isOrder, allZero, isListing}
 use Rattle.order.specs.Order.{cellNumbers, isOrderOf, orderRecord}
 use Rattle.coordinates.specs.Coordinates.{coordinateOf, coordinatesTo, weight}
 use Rattle.decoder.specs.Decoding.{leaves, isCodeword, firstBelow, correction}
-use Rattle.group.specs.Levels.{level, put, AtMost, atMost, sum, rises}
+use Rattle.group.specs.Levels.{level, put, AtMost, atMost, sum, rises, tallied}
 use Rattle.push_up.specs.PushUp.{singles, top, floorOver, Reach, Shows, lift, raise, pushOf, rankPushes, pushes, pulsesIn}
 use Rattle.group.specs.declared.Group.{Group}
-use Rattle.group.specs.Record.{allAtMost, isRow, opened, changed, withLevels}
-use Rattle.push_up.specs.WriteAnswer.{raised, fits, pushed, writeOf}
-use Rattle.changes.specs.Changes.{openOf, wearOf}
+use Rattle.group.specs.Record.{allAtMost, isRow, opened, withLevels, withUsed, withMark}
+use Rattle.push_up.specs.WriteAnswer.{raised, fits, lasts, pushed, writeOf}
+use Rattle.changes.specs.Changes.{openOf, wearOf, eraseOf}
 use Rattle.sensing.specs.Sense.{standsAbove, insert, sorted, sensed}
 use Rattle.engine.specs.ReadStore.{readOf}
 use Rattle.group.proofs.Levels.{at-most-true, at-most-level}
@@ -32,11 +32,11 @@ use Rattle.plain_machine.specs.declared.Call.{Call}
 use Rattle.engine.specs.Scrub.{Step, quiet}
 use Rattle.plain_machine.specs.Machine.{writes, target, applyOf}
 use Rattle.plain_machine.proofs.Machine.{accept}
-use Rattle.rivals.specs.Rivals.{Rival, Raised, Follows, Moves, entrant, latest, Machine, after, pulsesOf, plain, plainAfter, Course, rest, next, Raisable, Demand3, byOpen, MeetsDemand3, own}
+use Rattle.rivals.specs.Rivals.{Rival, capped, Raised, Follows, Moves, entrant, latest, Machine, after, pulsesOf, plain, plainAfter, Course, rest, next, isWornOrSpent, Raisable, Demand3, byOpen, MeetsDemand3, own}
 
 -- the machines start from a new group of 3 cells
 abbrev start : Group
-start = opened 3
+start = opened 3 1000000
 
 abbrev order : Order
 order = orderRecord (1 ∷ 2 ∷ 3 ∷ [])
@@ -52,29 +52,32 @@ abbrev least : List ℕ
 least = 2 ∷ 1 ∷ 0 ∷ replicate 9 0
 
 abbrev course : Rival
-course = record { levels = least; caps = start .caps; pulses = 3 }
+course = record { levels = least; caps = start .caps; used = least; endurance = 1000000; pulses = 3 }
 
 course-raised : Raised (target start call) (entrant start) course
-unfolding entrant orderRecord cellNumbers singles Shows Reach floorOver top atMost rises level
+unfolding entrant orderRecord cellNumbers singles Shows Reach floorOver top atMost rises tallied allAtMost level
 course-raised =
     record {
       no-lower = at-most-true _ _ refl;
       shows = ((lit≤ tt, tt), ((lit≤ tt, tt), ((lit≤ tt, tt), tt)));
       within = at-most-true _ _ refl;
       same-caps = refl;
-      spent = refl;
+      tallies = refl;
+      lasting = refl;
+      same-endurance = refl;
+      pulses = refl;
     }
 
 module _ (run : Machine) where
   -- one list of calls is enough
   fails : (cs : List Call) → ¬ (Demand3 run start cs) → ¬ (MeetsDemand3 run)
   unfolding openOf answer numberOf
-  fails cs fault meets = fault (meets start (byOpen 3 refl) cs)
+  fails cs fault meets = fault (meets start (byOpen 3 1000000 refl) cs)
 
   -- it says worn where a rival can be raised
   worn-refuted : run start call .number ≡ 8 → ¬ (MeetsDemand3 run)
   unfolding Raisable latest after plain numberOf isRow allAtMost orderRecord cellNumbers isOrderOf isListing isOrder eachOnce allZero
-  worn-refuted e = fails [] (λ d. d .worn-exactly call refl refl .0 e ([], rest, course, course-raised))
+  worn-refuted e = fails [] (λ d. d .stuck-exactly call refl refl .0 (ap isWornOrSpent e) ([], rest, course, course-raised))
 
   -- it goes higher than the plain machine does
   high-refuted : run start call .number ≡ 0 → ¬ (AtMost (run start call .value .group .levels) least)
@@ -107,7 +110,7 @@ blamer-refuted = fails blamer [] (λ d. let e : _≡_ {A = ℕ} 8 6 = d .answere
 
 -- what the plain machine answers to that write
 plain-answer : let t = applyOf start call in (t .number ≡ 0) × (t .value .group .levels ≡ least) × (t .value .pulses ≡ 3)
-unfolding applyOf writeOf answer pushed pushes rankPushes pushOf pulsesIn numberOf isRow allAtMost orderRecord cellNumbers isOrderOf isListing isOrder eachOnce allZero fits raised raise lift singles floorOver top level put atMost
+unfolding applyOf writeOf answer pushed pushes rankPushes pushOf pulsesIn numberOf isRow allAtMost orderRecord cellNumbers isOrderOf isListing isOrder eachOnce allZero fits lasts raised raise lift singles floorOver top level put atMost tallied
 plain-answer = (refl, refl, refl)
 
 -- the plain machine, but for the calls that raise cells and that it accepts
@@ -175,10 +178,10 @@ abbrev second-call : Call
 second-call = record { kind = Write; target = plainTarget (orderRecord (1 ∷ 3 ∷ 2 ∷ [])) }
 
 abbrev second-course : Rival
-second-course = record { levels = 3 ∷ 1 ∷ 2 ∷ replicate 9 0; caps = start .caps; pulses = 6 }
+second-course = record { levels = 3 ∷ 1 ∷ 2 ∷ replicate 9 0; caps = start .caps; used = 3 ∷ 1 ∷ 2 ∷ replicate 9 0; endurance = 1000000; pulses = 6 }
 
 pub climber-refuted : ¬ (MeetsDemand3 climber)
-unfolding climber flatten toTheTop latest after plainAfter entrant Moves Follows applyOf writeOf answer pushed rises numberOf isRow allAtMost orderRecord cellNumbers isOrderOf isListing isOrder eachOnce allZero fits raised raise lift singles floorOver top level put atMost Shows Reach
+unfolding climber flatten toTheTop latest after plainAfter entrant Moves Follows applyOf writeOf answer pushed rises tallied numberOf isRow allAtMost orderRecord cellNumbers isOrderOf isListing isOrder eachOnce allZero fits lasts raised raise lift singles floorOver top level put atMost Shows Reach
 climber-refuted =
     let second : Raised (singles (1 ∷ 3 ∷ 2 ∷ [])) course second-course =
     record {
@@ -186,7 +189,10 @@ climber-refuted =
       shows = ((lit≤ tt, tt), ((lit≤ tt, tt), ((lit≤ tt, tt), tt)));
       within = at-most-true _ _ refl;
       same-caps = refl;
-      spent = refl;
+      tallies = refl;
+      lasting = refl;
+      same-endurance = refl;
+      pulses = refl;
     } in
     fails climber (call ∷ second-call ∷ [])
     (λ d.
@@ -205,22 +211,22 @@ second-step (next a (next b rest)) = b
 
 -- its own course is none of the rivals
 pub copier-refuted : ¬ (MeetsDemand3 copier)
-unfolding copier own latest after plainAfter entrant Moves Follows applyOf writeOf answer pushed rises numberOf isRow allAtMost orderRecord cellNumbers isOrderOf isListing isOrder eachOnce allZero fits raised raise lift singles floorOver top level put atMost
+unfolding copier own latest after plainAfter entrant Moves Follows applyOf writeOf answer pushed rises tallied numberOf isRow allAtMost orderRecord cellNumbers isOrderOf isListing isOrder eachOnce allZero fits lasts raised raise lift singles floorOver top level put atMost
 copier-refuted = fails copier (call ∷ second-call ∷ []) (λ d. let high = at-most-level 2 (second-step (d .ours) .no-lower) in omega arith)
 
 -- two that leave a record gone wrong, so that calls which come later are refused: one loses n, one never sets the mark
 pub spoiler : Machine
-spoiler = otherwise (λ g c. altered (λ h. record { n = 0; levels = h .levels; caps = h .caps; written = h .written }) (λ k. k))
+spoiler = otherwise (λ g c. altered (λ h. record { n = 0; levels = h .levels; caps = h .caps; used = h .used; endurance = h .endurance; written = h .written }) (λ k. k))
 
 pub forgetter : Machine
-forgetter = otherwise (λ g c. altered (λ h. changed h (h .levels) (h .caps) false) (λ k. k))
+forgetter = otherwise (λ g c. altered (λ h. withMark false h) (λ k. k))
 
 pub spoiler-refuted : ¬ (MeetsDemand3 spoiler)
-unfolding spoiler after plain plainAfter applyOf writeOf answer pushed rises numberOf isRow allAtMost orderRecord cellNumbers isOrderOf isListing isOrder eachOnce allZero fits raised raise lift singles floorOver top level put atMost
+unfolding spoiler after plain plainAfter applyOf writeOf answer pushed rises tallied numberOf isRow allAtMost orderRecord cellNumbers isOrderOf isListing isOrder eachOnce allZero fits lasts raised raise lift singles floorOver top level put atMost
 spoiler-refuted = fails spoiler (call ∷ []) (λ d. let e : _≡_ {A = ℕ} 1 0 = d .handed call in omega arith)
 
 pub forgetter-refuted : ¬ (MeetsDemand3 forgetter)
-unfolding forgetter after plain plainAfter readOf sensed sorted insert standsAbove correction firstBelow isCodeword leaves weight coordinatesTo coordinateOf applyOf writeOf answer pushed rises numberOf isRow allAtMost orderRecord cellNumbers isOrderOf isListing isOrder eachOnce allZero fits raised raise lift singles floorOver top level put atMost
+unfolding forgetter after plain plainAfter readOf sensed sorted insert standsAbove correction firstBelow isCodeword leaves weight coordinatesTo coordinateOf applyOf writeOf answer pushed rises tallied numberOf isRow allAtMost orderRecord cellNumbers isOrderOf isListing isOrder eachOnce allZero fits lasts raised raise lift singles floorOver top level put atMost
 forgetter-refuted = fails forgetter (call ∷ []) (λ d. let e : _≡_ {A = ℕ} 6 0 = d .handed read-call in omega arith)
 
 -- two that go wrong at a shared write, here of cells 1 and 2 above cell 3: one sets the mark, so that a read finds a symbol where the plain machine is blank; one
@@ -229,20 +235,20 @@ abbrev shared-call : Call
 shared-call = record { kind = WriteShared; target = record { count = 2; sizes = 2 ∷ 1 ∷ replicate 10 0; cells = order } }
 
 pub keeper : Machine
-keeper = otherwise (λ g c. altered (λ h. changed h (h .levels) (h .caps) true) (λ k. k))
+keeper = otherwise (λ g c. altered (λ h. withMark true h) (λ k. k))
 
 pub keeper-refuted : ¬ (MeetsDemand3 keeper)
-unfolding keeper after plain plainAfter readOf sensed sorted insert standsAbove correction firstBelow isCodeword leaves weight coordinatesTo coordinateOf applyOf writeSharedOf sum eachFilled isSizes byNumber ranksOf answer pushed rises numberOf isRow allAtMost orderRecord cellNumbers isOrderOf isListing isOrder eachOnce allZero fits raised raise lift floorOver top level put atMost
+unfolding keeper after plain plainAfter readOf sensed sorted insert standsAbove correction firstBelow isCodeword leaves weight coordinatesTo coordinateOf applyOf writeSharedOf sum eachFilled isSizes byNumber ranksOf answer pushed rises tallied numberOf isRow allAtMost orderRecord cellNumbers isOrderOf isListing isOrder eachOnce allZero fits lasts raised raise lift floorOver top level put atMost
 keeper-refuted = fails keeper (shared-call ∷ []) (λ d. let e : _≡_ {A = ℕ} 0 6 = d .handed read-call in omega arith)
 
 unfoldable pub stacker : Machine
 stacker = otherwise (levelled (λ g c. raise 1 (singles (flatten (target g c))) (g .levels)))
 
 abbrev shared-course : Rival
-shared-course = record { levels = 1 ∷ 1 ∷ 0 ∷ replicate 9 0; caps = start .caps; pulses = 2 }
+shared-course = record { levels = 1 ∷ 1 ∷ 0 ∷ replicate 9 0; caps = start .caps; used = 1 ∷ 1 ∷ 0 ∷ replicate 9 0; endurance = 1000000; pulses = 2 }
 
 pub stacker-refuted : ¬ (MeetsDemand3 stacker)
-unfolding stacker flatten latest after plainAfter entrant Moves Follows applyOf writeSharedOf sum eachFilled isSizes byNumber ranksOf answer pushed rises numberOf isRow allAtMost orderRecord cellNumbers isOrderOf isListing isOrder eachOnce allZero fits raised raise lift singles floorOver top level put atMost Shows Reach
+unfolding stacker flatten latest after plainAfter entrant Moves Follows applyOf writeSharedOf sum eachFilled isSizes byNumber ranksOf answer pushed rises tallied numberOf isRow allAtMost orderRecord cellNumbers isOrderOf isListing isOrder eachOnce allZero fits lasts raised raise lift singles floorOver top level put atMost Shows Reach
 stacker-refuted =
     fails stacker (shared-call ∷ [])
     (λ d.
@@ -252,7 +258,10 @@ stacker-refuted =
       shows = ((lit≤ tt, (lit≤ tt, tt)), ((lit≤ tt, tt), tt));
       within = at-most-true _ _ refl;
       same-caps = refl;
-      spent = refl;
+      tallies = refl;
+      lasting = refl;
+      same-endurance = refl;
+      pulses = refl;
     } in
     let high = at-most-level 2 (d .lowest (shared-course ∷ []) (next shown rest)) in
     omega arith)
@@ -289,14 +298,14 @@ abbrev worn-call : Call
 worn-call = record { kind = Wear (record { 0 = 1 }) 2; target = plainTarget order }
 
 abbrev worn-course : Rival
-worn-course = record { levels = least; caps = put (start .caps) 1 2; pulses = 3 }
+worn-course = capped course (put (start .caps) 1 2)
 
 pub hasty-refuted : ¬ (MeetsDemand3 hasty)
-unfolding hasty Raisable latest after plain plainAfter entrant Moves Follows wearOf applyOf writeOf answer pushed rises numberOf isRow allAtMost orderRecord cellNumbers isOrderOf isListing isOrder eachOnce allZero fits raised raise lift singles floorOver top level put atMost Shows Reach
+unfolding hasty Raisable latest after plain plainAfter entrant Moves Follows wearOf applyOf writeOf answer pushed rises tallied numberOf isRow allAtMost orderRecord cellNumbers isOrderOf isListing isOrder eachOnce allZero fits lasts raised raise lift singles floorOver top level put atMost Shows Reach
 hasty-refuted =
     fails hasty (call ∷ worn-call ∷ [])
     (λ d.
-    d .worn-exactly call refl refl .0 refl (
+    d .stuck-exactly call refl refl .0 refl (
       course ∷ worn-course ∷ [],
       next course-raised (next refl rest),
       worn-course,
@@ -305,7 +314,10 @@ hasty-refuted =
         shows = ((lit≤ tt, tt), ((lit≤ tt, tt), ((lit≤ tt, tt), tt)));
         within = at-most-true _ _ refl;
         same-caps = refl;
-        spent = refl;
+        tallies = refl;
+        lasting = refl;
+        same-endurance = refl;
+        pulses = refl;
       },
     ))
 
@@ -322,5 +334,38 @@ second-worn = record { kind = Wear (record { 0 = 2 }) 0; target = plainTarget or
 
 -- with cell 2 worn to 0 it takes the order [1, 2, 3], whose top cell has room
 pub lax-refuted : ¬ (MeetsDemand3 lax)
-unfolding lax flatten after plain plainAfter wearOf applyOf writeOf answer pushed rises numberOf isRow allAtMost orderRecord cellNumbers isOrderOf isListing isOrder eachOnce allZero fits raised raise lift singles floorOver top level put atMost
+unfolding lax flatten after plain plainAfter wearOf applyOf writeOf answer pushed rises tallied numberOf isRow allAtMost orderRecord cellNumbers isOrderOf isListing isOrder eachOnce allZero fits lasts raised raise lift singles floorOver top level put atMost
 lax-refuted = fails lax (second-worn ∷ []) (λ d. let e : _≡_ {A = ℕ} 0 8 = d .answered call in omega arith)
+
+-- three that go wrong with the endurance, here 2, which the write of [1, 2, 3] just reaches at cell 1: one forgets the used pulses at a call that raises
+-- no cell, such as an erase, and one counts no rises, so that the same write is done again after an erase; one says spent where the endurance is reached
+abbrev brittle : Group
+brittle = opened 3 2
+
+brittle-fails : (run : Machine) (cs : List Call) → ¬ (Demand3 run brittle cs) → ¬ (MeetsDemand3 run)
+unfolding openOf answer numberOf
+brittle-fails run cs fault meets = fault (meets brittle (byOpen 3 2 refl) cs)
+
+abbrev erase-call : Call
+erase-call = record { kind = Erase; target = plainTarget order }
+
+pub resetter : Machine
+resetter g c = cond (writes (c .kind)) (applyOf g c) (altered (λ h. withUsed h (replicate 12 0)) (λ k. k) (applyOf g c))
+
+pub resetter-refuted : ¬ (MeetsDemand3 resetter)
+unfolding resetter after plain plainAfter eraseOf applyOf writeOf answer pushed rises tallied numberOf isRow allAtMost orderRecord cellNumbers isOrderOf isListing isOrder eachOnce allZero fits lasts raised raise lift singles floorOver top level put atMost
+resetter-refuted = brittle-fails resetter (call ∷ erase-call ∷ []) (λ d. let e : _≡_ {A = ℕ} 0 19 = d .handed call in omega arith)
+
+pub uncounted : Machine
+uncounted = otherwise (λ g c. altered (λ h. withUsed h (g .used)) (λ k. k))
+
+pub uncounted-refuted : ¬ (MeetsDemand3 uncounted)
+unfolding uncounted after plain plainAfter eraseOf applyOf writeOf answer pushed rises tallied numberOf isRow allAtMost orderRecord cellNumbers isOrderOf isListing isOrder eachOnce allZero fits lasts raised raise lift singles floorOver top level put atMost
+uncounted-refuted = brittle-fails uncounted (call ∷ erase-call ∷ []) (λ d. let e : _≡_ {A = ℕ} 0 19 = d .handed call in omega arith)
+
+pub sparer : Machine
+sparer g c = let t = applyOf g c in cond (writes (c .kind) && eqb (level (t .value .group .used) 1) (g .endurance)) (record { number = 19; value = quiet g }) t
+
+pub sparer-refuted : ¬ (MeetsDemand3 sparer)
+unfolding sparer after plain applyOf writeOf answer pushed rises tallied numberOf isRow allAtMost orderRecord cellNumbers isOrderOf isListing isOrder eachOnce allZero fits lasts raised raise lift singles floorOver top level put atMost
+sparer-refuted = brittle-fails sparer [] (λ d. let e : _≡_ {A = ℕ} 19 0 = d .answered call in omega arith)

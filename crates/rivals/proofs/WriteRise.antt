@@ -22,12 +22,13 @@ use Rattle.order.proofs.Pairs.{same-length, passed-second, pair-size, first-ord
 use Rattle.cost.specs.Cost.{cost, costOf}
 use Rattle.group.specs.declared.Group.{Group}
 use Rattle.group.specs.Levels.{AtMost}
-use Rattle.group.specs.Record.{groupChecks, opened, programmed}
+use Rattle.group.specs.Record.{groupChecks, opened, withLevels, withMark}
+use Rattle.push_up.specs.PushUp.{singles}
 use Rattle.push_up.specs.WriteAnswer.{raised, pushed, writeOf}
-use Rattle.group.proofs.LevelRows.{row-below, full-row}
+use Rattle.group.proofs.LevelRows.{row-below, full-row, zeros-row}
 use Rattle.group.proofs.Checks.{rules-hold, checked-size}
-use Rattle.push_up.proofs.Stairs.{stairs, at-most-tabulate, length-stairs, stairs-low, stairs-fit}
-use Rattle.push_up.proofs.Writes.{write-accepted}
+use Rattle.push_up.proofs.Stairs.{stairs, at-most-tabulate, length-stairs, stairs-low, stairs-fit, stairs-last}
+use Rattle.push_up.proofs.Writes.{push-holds, write-accepted}
 use Rattle.rivals.specs.Rise.{topLevel, written, Staircase}
 use Rattle.rivals.proofs.CostRise.{stairs-fall, cost-is-rise}
 
@@ -60,9 +61,9 @@ write-rise g u v w s d a =
 
 -- ---- a group that accepts
 
--- levels n down to 1 along u, and full caps
+-- levels n down to 1 along u, full caps and no used pulses
 unfoldable pub stairGroup : Order → Group
-stairGroup u = programmed true (opened (u .len)) (stairs (u .len) (u .len) (listed u))
+stairGroup u = withMark true (withLevels (opened (u .len) 1000000) (stairs (u .len) (u .len) (listed u)))
 
 -- stairs to v from 2n are above those to u from n
 stairs-above : (n : ℕ) (u v : List ℕ) → isOrder n u ≡ true → isOrder n v ≡ true → AtMost (stairs n n u) (stairs (n + n) n v)
@@ -81,10 +82,12 @@ stairs-written u v d =
     let p = first-order u v c in
     let q = second-order u v c in
     let start = row-below 4095 n (stairs-low n (listed u) p n (omega arith)) (full-row 4095 n) in
+    let above = stairs-above n (listed u) (listed v) p q in
     let target : isOrderOf n v ≡ true = ap (λ (k : ℕ). isOrderOf k v) (sym (same-length u v c)) ∙ passed v (passed-second u v c) .2 in
-    later-decide _ (groupChecks (stairGroup u)) (rules-hold (stairGroup u) (record { small = size .0; large = size .1; levels = start; caps = full-row 4095 n }))
+    later-decide _ (groupChecks (stairGroup u)) (rules-hold (stairGroup u) (record { small = size .0; large = size .1; levels = start; caps = full-row 4095 n; endurance = refl; used = zeros-row 1000000 n 12 }))
     ∙ check-holds NoOrder _ target
-    ∙ stairs-fit n (listed v) q (n + n) (stairGroup u) refl (stairs-above n (listed u) (listed v) p q) (omega arith) (omega arith)
+    ∙ push-holds (stairGroup u) (singles (listed v)) (stairs-fit n (listed v) q (n + n) (stairGroup u) refl above (omega arith) (omega arith))
+    (stairs-last n (listed v) q (n + n) (stairGroup u) refl above (omega arith) (size .1) (omega arith))
 
 -- so wherever `cost` answers, its answer is such a rise
 pub cost-answer-is-rise : (u v : Order) → costOf u v .number ≡ 0

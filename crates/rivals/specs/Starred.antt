@@ -10,8 +10,9 @@
 --   order xs            the record of an order: how many cells, and the cells in twelve places
 --   coordinates xs      the record of coordinates: how many, and the coordinates in eleven places
 --   displaced ds        displacements in twelve places. `pos k` is the number k, and `negsuc k` is −(k + 1): `negsuc 0` is −1
---   capped w ls cs      the group of these levels and caps; w is its mark "written"
+--   capped w ls cs      the group of these levels and caps, whose cells have taken no pulses, with the endurance 1,000,000; w is its mark "written"
 --   group w ls          the same, every cell capped at 4,095
+--   taken us g          the group g whose cells have taken these pulses
 --   push c start reach  the push of a cell from one level to another
 --   program g k ps      what the answer to a write or a store carries: the group after it, k pulses, how many pushes, and the pushes in
 --                       eleven places
@@ -40,6 +41,7 @@ use Rattle.code.specs.declared.Verdict.{Verdict}
 use Rattle.code.specs.declared.Verdict.the-variants.{Clean, PutRight}
 use Rattle.code.specs.Symbols.{Reading, codewordOf, decodeOf}
 use Rattle.group.specs.declared.Group.{Group}
+use Rattle.group.specs.Record.{withUsed}
 use Rattle.push_up.specs.declared.Push.{Push}
 use Rattle.push_up.specs.WriteAnswer.{Program, writeOf}
 use Rattle.sensing.specs.Sense.{senseOf}
@@ -64,10 +66,13 @@ abbrev pub displaced : List ℤ → List ℤ
 displaced ds = places 12 (pos 0) ds
 
 abbrev pub capped : Bool → List ℕ → List ℕ → Group
-capped w ls cs = record { n = length ls; levels = places 12 0 ls; caps = places 12 0 cs; written = w }
+capped w ls cs = record { n = length ls; levels = places 12 0 ls; caps = places 12 0 cs; used = replicate 12 0; endurance = 1000000; written = w }
 
 abbrev pub group : Bool → List ℕ → Group
 group w ls = capped w ls (replicate (length ls) 4095)
+
+abbrev pub taken : List ℕ → Group → Group
+taken us g = withUsed g (places 12 0 us)
 
 abbrev pub push : ℕ → ℕ → ℕ → Push
 push c start reach = record { cell = cell c; start = start; reach = reach }
@@ -130,11 +135,11 @@ EachRight (f ∷ fs) = IsRight f × EachRight fs
 abbrev pub starred : List Fact
 starred =
     -- 1. "Levels (3,4,2,1), write [2,1,4,3]: pushes 4 to 3, 1 to 4, 2 to 5; levels (4,5,2,3); 4 pulses; cost 1."
-    writeGives (group false (3 ∷ 4 ∷ 2 ∷ 1 ∷ [])) (2 ∷ 1 ∷ 4 ∷ 3 ∷ []) (done (program (group true (4 ∷ 5 ∷ 2 ∷ 3 ∷ [])) 4 (push 4 1 3 ∷ push 1 3 4 ∷ push 2 4 5 ∷ [])))
+    writeGives (group false (3 ∷ 4 ∷ 2 ∷ 1 ∷ [])) (2 ∷ 1 ∷ 4 ∷ 3 ∷ []) (done (program (taken (1 ∷ 1 ∷ 0 ∷ 2 ∷ []) (group true (4 ∷ 5 ∷ 2 ∷ 3 ∷ []))) 4 (push 4 1 3 ∷ push 1 3 4 ∷ push 2 4 5 ∷ [])))
     ∷ senseGives (group false (3 ∷ 4 ∷ 2 ∷ 1 ∷ [])) (done (order (2 ∷ 1 ∷ 3 ∷ 4 ∷ [])))
     ∷ costGives (2 ∷ 1 ∷ 3 ∷ 4 ∷ []) (2 ∷ 1 ∷ 4 ∷ 3 ∷ []) (done (pos 1))
     -- 2. "Levels (4,3,2,1), same target: pushes 4 to 3, 2 to 5; 4 pulses; displacements +1, −1, +1, −1."
-    ∷ writeGives (group false (4 ∷ 3 ∷ 2 ∷ 1 ∷ [])) (2 ∷ 1 ∷ 4 ∷ 3 ∷ []) (done (program (group true (4 ∷ 5 ∷ 2 ∷ 3 ∷ [])) 4 (push 4 1 3 ∷ push 2 3 5 ∷ [])))
+    ∷ writeGives (group false (4 ∷ 3 ∷ 2 ∷ 1 ∷ [])) (2 ∷ 1 ∷ 4 ∷ 3 ∷ []) (done (program (taken (0 ∷ 2 ∷ 0 ∷ 2 ∷ []) (group true (4 ∷ 5 ∷ 2 ∷ 3 ∷ []))) 4 (push 4 1 3 ∷ push 2 3 5 ∷ [])))
     ∷ senseGives (group false (4 ∷ 3 ∷ 2 ∷ 1 ∷ [])) (done (order (1 ∷ 2 ∷ 3 ∷ 4 ∷ [])))
     ∷ displacementsGive (1 ∷ 2 ∷ 3 ∷ 4 ∷ []) (2 ∷ 1 ∷ 4 ∷ 3 ∷ []) (done (displaced (pos 1 ∷ negsuc 0 ∷ pos 1 ∷ negsuc 0 ∷ [])))
     -- 3. "[3,4,1,2] has coordinates (0,2,2), reads as [3,1,4,2], place 2." It shows in levels (2,1,4,3).
@@ -160,12 +165,12 @@ starred =
     ∷ coordinatesGive (3 ∷ 2 ∷ 4 ∷ 1 ∷ []) (done (coordinates (1 ∷ 2 ∷ 1 ∷ [])))
     ∷ coordinatesGive (3 ∷ 1 ∷ 4 ∷ 2 ∷ []) (done (coordinates (0 ∷ 2 ∷ 1 ∷ [])))
     -- 8. "n = 3, levels 0, store 1: levels (0,1,2). Cell 3 capped at 2: done. Capped at 1: refused 8."
-    ∷ storeGives (group false (0 ∷ 0 ∷ 0 ∷ [])) 1 (done (program (group true (0 ∷ 1 ∷ 2 ∷ [])) 3 (push 2 0 1 ∷ push 3 0 2 ∷ [])))
-    ∷ storeGives (capped false (0 ∷ 0 ∷ 0 ∷ []) (4095 ∷ 4095 ∷ 2 ∷ [])) 1 (done (program (capped true (0 ∷ 1 ∷ 2 ∷ []) (4095 ∷ 4095 ∷ 2 ∷ [])) 3 (push 2 0 1 ∷ push 3 0 2 ∷ [])))
+    ∷ storeGives (group false (0 ∷ 0 ∷ 0 ∷ [])) 1 (done (program (taken (0 ∷ 1 ∷ 2 ∷ []) (group true (0 ∷ 1 ∷ 2 ∷ []))) 3 (push 2 0 1 ∷ push 3 0 2 ∷ [])))
+    ∷ storeGives (capped false (0 ∷ 0 ∷ 0 ∷ []) (4095 ∷ 4095 ∷ 2 ∷ [])) 1 (done (program (taken (0 ∷ 1 ∷ 2 ∷ []) (capped true (0 ∷ 1 ∷ 2 ∷ []) (4095 ∷ 4095 ∷ 2 ∷ []))) 3 (push 2 0 1 ∷ push 3 0 2 ∷ [])))
     ∷ storeGives (capped false (0 ∷ 0 ∷ 0 ∷ []) (4095 ∷ 4095 ∷ 1 ∷ [])) 1 (refused 8 (program (capped false (0 ∷ 0 ∷ 0 ∷ []) (4095 ∷ 4095 ∷ 1 ∷ [])) 0 []))
     -- 9. "Levels (0,1,1), written"; document 02, request (c): "Case 9 of document 01 then reads [3,2,1], clean." "Pulses of a scrub in that
     -- case stay 1."
     ∷ senseGives (group true (0 ∷ 1 ∷ 1 ∷ [])) (done (order (3 ∷ 2 ∷ 1 ∷ [])))
     ∷ readGives (group true (0 ∷ 1 ∷ 1 ∷ [])) (clean 1)
-    ∷ scrubGives (group true (0 ∷ 1 ∷ 1 ∷ [])) (done (step (group true (0 ∷ 1 ∷ 2 ∷ [])) 1 (some Clean) 1 (push 3 1 2 ∷ [])))
+    ∷ scrubGives (group true (0 ∷ 1 ∷ 1 ∷ [])) (done (step (taken (0 ∷ 0 ∷ 1 ∷ []) (group true (0 ∷ 1 ∷ 2 ∷ []))) 1 (some Clean) 1 (push 3 1 2 ∷ [])))
     ∷ []

@@ -12,7 +12,7 @@ use Rattle.order.specs.declared.Cell.{Cell}
 use Rattle.order.specs.Refusals.{Told, ifDone, answer, numberOf}
 use Rattle.group.specs.declared.Group.{Group}
 use Rattle.group.specs.Record.{noGroup, IsGroup}
-use Rattle.changes.specs.Changes.{openOf, leakOf, wearOf, eraseOf}
+use Rattle.changes.specs.Changes.{leakOf, wearOf, eraseOf}
 use Rattle.changes.proofs.Groups.{open-group}
 use Rattle.plain_machine.specs.declared.Kind.{Kind}
 use Rattle.plain_machine.specs.declared.Kind.the-variants.{Store, Scrub, Leak, Wear, Erase, Read}
@@ -25,7 +25,7 @@ use Rattle.rivals.specs.Rivals.{after, pulsesOf}
 use Rattle.records.specs.declared.CallRecord.{CallRecord}
 use Rattle.records.specs.declared.Request.{Request}
 use Rattle.records.specs.declared.Request.the-variants.{Bad, Open, Apply}
-use Rattle.records.specs.Records.{Answer, unusedZero, requests, requestOf, callOf, stepBy, stepOf}
+use Rattle.records.specs.Records.{Answer, unusedZero, requests, requestOf, callOf, opening, stepBy, stepOf}
 use Rattle.runs.specs.Text.{allPulses}
 use Rattle.runs.specs.Pieces.{groupAfter}
 
@@ -100,10 +100,10 @@ apply-begun g kind z (inl e) = inl (ap (λ (h : Group). applyOf h (callOf kind) 
 apply-begun g kind z (inr h) = inr (apply-group g (callOf kind) h)
 
 open-begun : (g : Group) (n : ℕ) → Begun g → Leaves g (Open n)
-open-begun g n b = opened (openOf n .number) refl
+open-begun g n b = opened (opening n .number) refl
   where
-    opened : (k : ℕ) → openOf n .number ≡ k → Begun (ifDone k (openOf n .value) g)
-    opened zero e = inr (open-group n e)
+    opened : (k : ℕ) → opening n .number ≡ k → Begun (ifDone k (opening n .value) g)
+    opened zero e = inr (open-group n 1000000 e)
     opened (suc k) e = b
 
 -- what holds of each request holds of the one at a place, and of a bad record past them

@@ -8,11 +8,11 @@ use Rattle.coordinates.specs.Coordinates.{coordinateOf, coordinatesTo, weight, 
 use Rattle.decoder.specs.Decoding.{leaves, isCodeword, firstBelow, correction}
 use Rattle.code.specs.Words.{joined, select, same, indexOf, vectorsFrom, vectors, words, K, wordAt, wordNumber, symbolOf}
 use Rattle.code.specs.Symbols.{wordOf, readingAt}
-use Rattle.group.specs.Levels.{level, put, atMost, leaked}
+use Rattle.group.specs.Levels.{level, put, atMost, tallied, leaked}
 use Rattle.group.specs.Record.{allAtMost, isRow}
 use Rattle.push_up.specs.PushUp.{singles, top, floorOver, lift, raise, pushOf, rankPushes, pushes, pulsesIn}
 use Rattle.sensing.specs.Sense.{standsAbove, insert, sorted, sensed}
-use Rattle.push_up.specs.WriteAnswer.{raised, fits, pushed}
+use Rattle.push_up.specs.WriteAnswer.{raised, fits, lasts, pushed}
 use Rattle.changes.specs.Changes.{openOf, leakOf}
 use Rattle.engine.specs.ReadStore.{readOf, storeOf}
 use Rattle.engine.specs.Scrub.{scrubOf}
@@ -42,5 +42,5 @@ text =
     ∷ []
 
 pub example-printed : textOf example ≡ text
-unfolding refusals.answer refusals.numberOf level put leaked atMost allAtMost isRow singles top floorOver lift raise pushOf rankPushes pushes pulsesIn raised fits pushed openOf leakOf storeOf scrubOf applyOf wordOf orderFrom K wordAt words vectors vectorsFrom joined select leaves weight standsAbove insert sorted sensed readOf readingAt correction firstBelow isCodeword symbolOf wordNumber indexOf same coordinatesTo coordinateOf recordAt records unusedZero requestOf stepOf spelled decimal numbersOf lineOf lines allPulses leftLine sumLine textOf
+unfolding refusals.answer refusals.numberOf level put leaked tallied atMost allAtMost isRow singles top floorOver lift raise pushOf rankPushes pushes pulsesIn raised fits lasts pushed openOf leakOf storeOf scrubOf applyOf wordOf orderFrom K wordAt words vectors vectorsFrom joined select leaves weight standsAbove insert sorted sensed readOf readingAt correction firstBelow isCodeword symbolOf wordNumber indexOf same coordinatesTo coordinateOf recordAt records unusedZero requestOf stepOf spelled decimal numbersOf lineOf lines allPulses leftLine sumLine textOf
 example-printed = refl

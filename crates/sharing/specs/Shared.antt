@@ -10,7 +10,7 @@
 --   ranksOf n ss xs     the cells of each rank: the list xs in parts of the sizes ss, each by number
 --   sharedTarget n t    the cells of each rank of a target, the highest rank first
 --   rankedChecks n t    the checks of a target for n cells: 18 and directly after it 4
---   sharedChecks g t    the checks of a shared write: 1, 2, 18, 4, 8
+--   sharedChecks g t    the checks of a shared write: 1, 2, 18, 4, 8, 19
 --   writeSharedOf g t   the answer to `write_shared`: that of a write, but for the mark, which a shared write clears
 --   plainTarget o       the record of a target that is an order: no rank sizes
 --   onesTarget n o      an order of n cells as a target with rank sizes: all of them 1. For the laws
@@ -28,7 +28,7 @@ use Rattle.order.specs.Cells.{count, allZero}
 use Rattle.order.specs.Order.{listed, isOrderOf}
 use Rattle.group.specs.declared.Group.{Group}
 use Rattle.group.specs.Levels.{sum}
-use Rattle.group.specs.Record.{groupChecks, programmed}
+use Rattle.group.specs.Record.{groupChecks, withMark}
 use Rattle.push_up.specs.WriteAnswer.{Program, pushed, unpushed, pushChecks}
 use Rattle.sharing.specs.declared.Ranked.{Ranked}
 
@@ -84,5 +84,5 @@ unmarked t =
     let p = t .value in
     record {
       number = t .number;
-      value = record { group = programmed false (p .group) (p .group .levels); pulses = p .pulses; count = p .count; pushes = p .pushes };
+      value = record { group = withMark false (p .group); pulses = p .pulses; count = p .count; pushes = p .pushes };
     }

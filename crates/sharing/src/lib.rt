@@ -29,7 +29,8 @@ pub struct Ranked {
     pub cells: Order,
 }
 
-// Minimal push-up to such a target. Checked are 1, 2, 18, 4 and 8, in this order; a refusal leaves the group, its mark included. Accepted, the mark is cleared.
+// Minimal push-up to such a target. Checked are 1, 2, 18, 4, 8 and 19, in this order; a refusal leaves the group, its mark included. Accepted, the mark is
+// cleared.
 pub fn write_shared(g: Group, target: Ranked) -> Written
     ensures { λ r. ⌜ toldWritten r ≡ writeSharedOf g target ⌝ }
 {
@@ -51,6 +52,12 @@ pub fn write_shared(g: Group, target: Ranked) -> Written
     if !push_up::is_within(levels, caps) {
         return push_up::unwritten(Outcome::Refused(Refusal::Worn), g);
     }
+    let used_before = g.used;
+    let tallies = push_up::add_rises(used_before, old, levels, g.endurance);
+    if !tallies.lasting {
+        return push_up::unwritten(Outcome::Refused(Refusal::Spent), g);
+    }
+    let used = tallies.used;
     let pushes = p.pushes;
     Written {
         outcome: Outcome::Done,
@@ -58,6 +65,8 @@ pub fn write_shared(g: Group, target: Ranked) -> Written
             n: g.n,
             levels,
             caps,
+            used,
+            endurance: g.endurance,
             written: false,
         },
         pulses: p.pulses,

@@ -7,5 +7,5 @@ use mathlib.Core.List.{List}
 use Rattle.order.specs.Refusals.{checkRow, inRow}
 use Rattle.take_over.specs.TakeOver.{takeOverChecks}
 
-pub take-over-in-row : (n : ℕ) (ls cs : List ℕ) → inRow (takeOverChecks n ls cs) checkRow ≡ true
-take-over-in-row n ls cs = refl
+pub take-over-in-row : (n : ℕ) (ls cs us : List ℕ) (e : ℕ) → inRow (takeOverChecks n ls cs us e) checkRow ≡ true
+take-over-in-row n ls cs us e = refl

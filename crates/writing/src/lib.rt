@@ -34,6 +34,12 @@ pub fn write(g: Group, target: Order) -> Written
     if !push_up::is_within(levels, caps) {
         return push_up::unwritten(Outcome::Refused(Refusal::Worn), g);
     }
+    let used_before = g.used;
+    let tallies = push_up::add_rises(used_before, old, levels, g.endurance);
+    if !tallies.lasting {
+        return push_up::unwritten(Outcome::Refused(Refusal::Spent), g);
+    }
+    let used = tallies.used;
     let pushes = p.pushes;
     // the record stands here field by field: one that a call returns is copied with its padding
     Written {
@@ -42,6 +48,8 @@ pub fn write(g: Group, target: Order) -> Written
             n: g.n,
             levels,
             caps,
+            used,
+            endurance: g.endurance,
             written: true,
         },
         pulses: p.pulses,

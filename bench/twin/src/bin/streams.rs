@@ -7,7 +7,7 @@ use std::path::Path;
 use std::{env, fs, io, process};
 use twin::calls::LIMIT;
 use twin::code::words;
-use twin::group::{Group, TOP};
+use twin::group::{ENDURANCE, Group, TOP};
 
 /// Adds the next calls to a stream.
 type Kind = fn(&mut Stream);
@@ -40,7 +40,7 @@ impl Chance {
 
 impl Stream {
     fn new(n: u32) -> Stream {
-        let group = Group::open(n).expect("n is 3 to 12");
+        let group = Group::open(n, ENDURANCE).expect("n is 3 to 12");
         Stream { bytes: Vec::with_capacity(LIMIT), group, chance: Chance(n.into()) }
     }
 
@@ -68,7 +68,7 @@ impl Stream {
 
     fn open(&mut self) {
         self.record(0, 0, [0; 2], self.n());
-        self.group = Group::open(self.n()).expect("n is 3 to 12");
+        self.group = Group::open(self.n(), ENDURANCE).expect("n is 3 to 12");
     }
 
     fn store(&mut self) {

@@ -13,7 +13,7 @@ use Rattle.page.proofs.is_page.Tie as tie
 
 -- what a read past the array would give
 abbrev outside : Group
-outside = record { n = 0; levels = []; caps = []; written = false }
+outside = record { n = 0; levels = []; caps = []; used = []; endurance = 0; written = false }
 
 abbrev Inv-loop : tie.InvT-loop
 Inv-loop page first i₀ i = LikeTo page i

@@ -7,17 +7,17 @@ use mathlib.Core.Path.{_≡_, sym, ap, _∙_}
 use mathlib.Core.Bool.{Bool, true}
 use mathlib.Core.List.{List, _∷_, _++_}
 use Rattle.order.specs.declared.Refusal.{Refusal}
-use Rattle.order.specs.declared.Refusal.the-variants.{NoOrder, Worn, RankSizes}
+use Rattle.order.specs.declared.Refusal.the-variants.{NoOrder, Worn, RankSizes, Spent}
 use Rattle.order.specs.Refusals.{numberOf}
 use Rattle.order.specs.Order.{isOrderOf}
 use Rattle.order.proofs.Check.{order-parts}
 use Rattle.order.proofs.Refusals.{accepted, passed-on, told-refused, told-done, check-fails, check-holds, all-hold, outcome-first, later-decide}
-use Rattle.group.specs.Levels.{atMost}
+use Rattle.group.specs.Levels.{atMost, tallied}
 use Rattle.group.specs.Record.{groupChecks}
 use Rattle.push_up.specs.declared.PushUp.{PushUp}
-use Rattle.push_up.specs.WriteAnswer.{raised, fits, pushed}
+use Rattle.push_up.specs.WriteAnswer.{raised, fits, lasts, pushed, talliesOf}
 use Rattle.push_up.specs.Steps.{pushUpTo}
-use Rattle.push_up.proofs.Writes.{checked-target}
+use Rattle.push_up.proofs.Writes.{checked-target, added-lasts, added-used}
 use Rattle.sharing.specs.Shared.{isSizes, sharedTarget, writeSharedOf}
 use Rattle.sharing.proofs.write_shared.Statement.{statement}
 use Rattle.sharing.proofs.write_shared.Tie as tie
@@ -108,12 +108,56 @@ returns-4 c =
     let w = c .before .before in
     c .unwritten4 .ensures ∙ told-refused _ _ _ Worn (before-worn w _ ∙ check-fails _ _ (sym (tested w) ∙ not-true _ (c .before .if3 .taken)))
 
+-- the levels have passed
+fitting : (c : tie.Else3) → let a = start (c .before .before .before .before .before .before) .args in fits (a .g) (sharedTarget (a .g .n) (a .target)) ≡ true
+fitting c = sym (tested (c .before)) ∙ not-false _ (c .if3 .left)
+
+-- the rises that are added are those of the definition
+added : (c : tie.After-add-rises) →
+    let a = start (c .before .before .before .before .before .before .before .before) .args in
+    c .add-rises .result ≡ talliesOf (a .g .endurance) (a .g .used) (a .g .levels) (raised (a .g) (sharedTarget (a .g .n) (a .target)))
+unfolding raised pushUpTo
+added c =
+    let w = c .before .before .before in
+    let g = start (w .before .before .before .before .before) .args .g in
+    c .add-rises .ensures ∙ ap (λ (p : PushUp). talliesOf (g .endurance) (g .used) (g .levels) (p .levels)) (reckoned (w .before .before))
+
+-- the record has passed
+checked : (c : tie.After-add-rises) → numberOf (groupChecks (start (c .before .before .before .before .before .before .before .before) .args .g)) ≡ 0
+checked c = passed (sizes-left (c .before .before .before .before .before .before .before .before .before) .before .before)
+
+-- so that the endurance is tested, and what lasts is kept
+lasting : (c : tie.After-add-rises) →
+    let a = start (c .before .before .before .before .before .before .before .before) .args in
+    lasts (a .g) (sharedTarget (a .g .n) (a .target)) ≡ c .add-rises .result .lasting
+lasting c =
+    let a = start (c .before .before .before .before .before .before .before .before) .args in
+    sym (added-lasts (a .g) (checked c) (sharedTarget (a .g .n) (a .target)) (c .add-rises .result) (added c))
+
+summed : (c : tie.After-add-rises) →
+    let a = start (c .before .before .before .before .before .before .before .before) .args in
+    let t = sharedTarget (a .g .n) (a .target) in
+    lasts (a .g) t ≡ true → c .add-rises .result .used ≡ tallied (a .g .used) (a .g .levels) (raised (a .g) t)
+summed c =
+    let a = start (c .before .before .before .before .before .before .before .before) .args in
+    added-used (a .g) (checked c) (sharedTarget (a .g .n) (a .target)) (c .add-rises .result) (added c)
+
 returns-5 : tie.Need-returns-5
-unfolding writeSharedOf pushed raised pushUpTo
+unfolding writeSharedOf
 returns-5 c =
-    let w = c .before .before in
-    rw (reckoned (w .before .before))
-    (told-done _ _ _ (before-worn w _ ∙ check-holds _ _ (sym (tested w) ∙ not-false _ (c .before .if3 .left)) ∙ all-hold))
+    let s = c .before .before .before in
+    let e = s .before .before in
+    c .unwritten5 .ensures ∙ told-refused _ _ _ Spent (before-worn (e .before) _ ∙ check-holds _ _ (fitting e) ∙ check-fails _ _ (lasting s ∙ not-true _ (c .before .if4 .taken)))
+
+returns-6 : tie.Need-returns-6
+unfolding writeSharedOf pushed raised pushUpTo
+returns-6 c =
+    let s = c .before .before .before .before in
+    let e = s .before .before in
+    let w = e .before in
+    let last = lasting s ∙ not-false _ (c .before .before .if4 .left) in
+    rw (summed s last, reckoned (w .before .before))
+    (told-done _ _ _ (before-worn w _ ∙ check-holds _ _ (fitting e) ∙ check-holds _ _ last ∙ all-hold))
 
 pub write-shared-spec : {M : Type 1} → statement M
 write-shared-spec =
@@ -134,4 +178,7 @@ write-shared-spec =
     (λ c κs. search needs)
     (λ c κs. search needs)
     returns-4
-    returns-5)
+    (λ c κs. search needs)
+    (λ c κs. search needs)
+    returns-5
+    returns-6)

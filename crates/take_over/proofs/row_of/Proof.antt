@@ -2,29 +2,27 @@
 -- Assumes nothing.
 use borrow.Author.Needs.{needs}
 use Prim.Native.Nat.{_-_, _≤_}
-use mathlib.Core.Path.{sym, _∙_}
-use mathlib.Core.Bool.{false≢true}
 use native.Mathlib.Omega.{arith}
 use lib.ListN.{length}
-use Rattle.take_over.proofs.Rows.{Placed, placed-none, placed-more, placed-all, placed-low, other-length, same-length}
+use Rattle.take_over.proofs.Rows.{Placed, placed-none, placed-more, placed-row, other-length}
 use Rattle.take_over.proofs.row_of.Statement.{statement}
 use Rattle.take_over.proofs.row_of.Tie as tie
 
 abbrev Inv-loop : tie.InvT-loop
-Inv-loop n values places₀ over₀ i₀ places over i = Placed values places over i
+Inv-loop n values places₀ over₀ i₀ places over i = Placed 4095 values places over i
 
 abbrev μ-loop : tie.MeasureT-loop
 μ-loop n values places₀ over₀ i₀ places over i = length values - i
 
 returns : tie.Need-returns Inv-loop μ-loop
-returns c = (sym (other-length _ _ (λ e. omega (arith, e, c .if1 .taken))), λ e. absurd (false≢true e))
+returns c = other-length _ _ _ _ (λ e. omega (arith, e, c .if1 .taken))
 
 -- there are no more values than places
 short : (c : tie.Else1 Inv-loop μ-loop) → length (c .before .before .args .values .now) ≤ 12
 short c = omega (arith, c .if1 .left, c .before .before .pre)
 
 loop-holds : tie.Need-loop-holds Inv-loop μ-loop
-loop-holds c = placed-none _
+loop-holds c = placed-none _ _
 
 loop-again : tie.Need-loop-again Inv-loop μ-loop
 loop-again c =
@@ -34,8 +32,7 @@ loop-again c =
 returns-2 : tie.Need-returns-2 Inv-loop μ-loop
 returns-2 c =
     let at = c .before in
-    let low = placed-low (at .loop .inv) (short (at .before)) (c .loop-test .left) in
-    (low ∙ sym (same-length _ _ (omega (arith, at .before .if1 .left))), λ e. placed-all (at .loop .inv) (short (at .before)) (c .loop-test .left))
+    placed-row (at .loop .inv) (short (at .before)) (c .loop-test .left) _ (omega (arith, at .before .if1 .left))
 
 pub row-of-spec : {M : Type 1} → statement M
 row-of-spec =

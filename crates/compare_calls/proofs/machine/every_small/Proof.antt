@@ -9,7 +9,7 @@ abbrev Inv-loop : tie.InvT-loop
 Inv-loop t₀ k₀ t k = Unit {0}
 
 abbrev μ-loop : tie.MeasureT-loop
-μ-loop t₀ k₀ t k = 76032 - k
+μ-loop t₀ k₀ t k = 304128 - k
 
 pub every-small-spec : {M : Type 1} → statement M
 every-small-spec =

@@ -14,5 +14,7 @@ of-cells-spec =
     (λ c. sym (length-take-le _ _ (search needs)))
     (λ c. search needs)
     (λ c. sym (length-take-le _ _ (search needs)))
+    (λ c. search needs)
+    (λ c. sym (length-take-le _ _ (search needs)))
     (λ c κs. search needs)
     (λ c. search needs))

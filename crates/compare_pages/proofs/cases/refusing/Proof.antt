@@ -9,7 +9,7 @@ abbrev Inv-loop : tie.InvT-loop
 Inv-loop t₀ i₀ t i = Unit {0}
 
 abbrev μ-loop : tie.MeasureT-loop
-μ-loop t₀ i₀ t i = 8704 - i
+μ-loop t₀ i₀ t i = 9472 - i
 
 pub refusing-spec : {M : Type 1} → statement M
 refusing-spec =

@@ -6,10 +6,10 @@ use Rattle.naive_calls.proofs.cuts.at_cut.Statement.{statement}
 use Rattle.naive_calls.proofs.cuts.at_cut.Tie as tie
 
 abbrev Inv-loop : tie.InvT-loop
-Inv-loop complete level pushes levels₀ pulses₀ k₀ levels pulses k = Unit {0}
+Inv-loop old before complete level pushes levels₀ pulses₀ k₀ levels pulses k = Unit {0}
 
 abbrev μ-loop : tie.MeasureT-loop
-μ-loop complete level pushes levels₀ pulses₀ k₀ levels pulses k = 11 - k
+μ-loop old before complete level pushes levels₀ pulses₀ k₀ levels pulses k = 11 - k
 
 pub at-cut-spec : {M : Type 1} → statement M
 at-cut-spec =
@@ -29,4 +29,5 @@ at-cut-spec =
     (λ c. search needs)
     (λ c. search needs)
     (λ c. search needs)
+    (λ c κs. search needs)
     (λ c. search needs))

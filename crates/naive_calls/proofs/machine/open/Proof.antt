@@ -6,10 +6,10 @@ use Rattle.naive_calls.proofs.machine.open.Statement.{statement}
 use Rattle.naive_calls.proofs.machine.open.Tie as tie
 
 abbrev Inv-loop : tie.InvT-loop
-Inv-loop n caps₀ i₀ caps i = Unit {0}
+Inv-loop n endurance caps₀ i₀ caps i = Unit {0}
 
 abbrev μ-loop : tie.MeasureT-loop
-μ-loop n caps₀ i₀ caps i = 12 - i
+μ-loop n endurance caps₀ i₀ caps i = 12 - i
 
 pub open-spec : {M : Type 1} → statement M
 open-spec =
@@ -17,6 +17,9 @@ open-spec =
     (tie.spec
     Inv-loop
     μ-loop
+    (λ c κs. search needs)
+    (λ c κs. search needs)
+    (λ c. search needs)
     (λ c κs. search needs)
     (λ c κs. search needs)
     (λ c. search needs)

@@ -6,10 +6,10 @@ use Rattle.naive_calls.proofs.shared.pushed_up.Statement.{statement}
 use Rattle.naive_calls.proofs.shared.pushed_up.Tie as tie
 
 abbrev Inv-loop : tie.InvT-loop
-Inv-loop g ranks old caps levels₀ a₀ k₀ levels a k = Unit {0}
+Inv-loop g ranks old levels₀ a₀ k₀ levels a k = Unit {0}
 
 abbrev μ-loop : tie.MeasureT-loop
-μ-loop g ranks old caps levels₀ a₀ k₀ levels a k = 144 - k
+μ-loop g ranks old levels₀ a₀ k₀ levels a k = 144 - k
 
 pub pushed-up-spec : {M : Type 1} → statement M
 pushed-up-spec =
@@ -31,7 +31,6 @@ pushed-up-spec =
     (λ c. search needs)
     (λ c. search needs)
     (λ c. search needs)
-    (λ c κs. search needs)
     (λ c κs. search needs)
     (λ c. search needs)
     (λ c. search needs))
