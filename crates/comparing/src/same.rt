@@ -45,6 +45,7 @@ pub fn refusal(r: Refusal) -> u8 {
         Refusal::RankSizes => 18,
         Refusal::Spent => 19,
         Refusal::Endurance => 20,
+        Refusal::Seed => 21,
     }
 }
 

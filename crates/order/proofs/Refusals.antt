@@ -8,7 +8,7 @@ use lib.Dec.{leb}
 use lib.ListN.{getD}
 use borrow.Author.Tests.{leb-true, le-leb, lt-leb}
 use Rattle.order.specs.declared.Refusal.{Refusal}
-use Rattle.order.specs.declared.Refusal.the-variants.{Size, NoGroup, NoCell, NoOrder, NoSymbol, Blank, Lost, Worn, CapUp, ListShort, Coordinate, BadRecord, RunLimit, NoRaise, RoomShort, NoPage, Measurement, RankSizes, Spent, Endurance}
+use Rattle.order.specs.declared.Refusal.the-variants.{Size, NoGroup, NoCell, NoOrder, NoSymbol, Blank, Lost, Worn, CapUp, ListShort, Coordinate, BadRecord, RunLimit, NoRaise, RoomShort, NoPage, Measurement, RankSizes, Spent, Endurance, Seed}
 use Rattle.order.specs.declared.Outcome.{Outcome}
 use Rattle.order.specs.declared.Outcome.the-variants.{Done, Refused}
 use Rattle.order.specs.Refusals.{refusalNumber, outcomeNumber, numberOf, ifDone, answer, isSize}
@@ -17,7 +17,7 @@ use Rattle.order.proofs.Cells.{both}
 -- ---- the number determines the outcome
 
 outcomes : List Outcome
-outcomes = Done ∷ Refused Size ∷ Refused NoGroup ∷ Refused NoCell ∷ Refused NoOrder ∷ Refused NoSymbol ∷ Refused Blank ∷ Refused Lost ∷ Refused Worn ∷ Refused CapUp ∷ Refused ListShort ∷ Refused Coordinate ∷ Refused BadRecord ∷ Refused RunLimit ∷ Refused NoRaise ∷ Refused RoomShort ∷ Refused NoPage ∷ Refused Measurement ∷ Refused RankSizes ∷ Refused Spent ∷ Refused Endurance ∷ []
+outcomes = Done ∷ Refused Size ∷ Refused NoGroup ∷ Refused NoCell ∷ Refused NoOrder ∷ Refused NoSymbol ∷ Refused Blank ∷ Refused Lost ∷ Refused Worn ∷ Refused CapUp ∷ Refused ListShort ∷ Refused Coordinate ∷ Refused BadRecord ∷ Refused RunLimit ∷ Refused NoRaise ∷ Refused RoomShort ∷ Refused NoPage ∷ Refused Measurement ∷ Refused RankSizes ∷ Refused Spent ∷ Refused Endurance ∷ Refused Seed ∷ []
 
 outcome-at : (o : Outcome) → getD outcomes (outcomeNumber o) Done ≡ o
 unfolding outcomes
@@ -42,6 +42,7 @@ outcome-at (Refused Measurement) = refl
 outcome-at (Refused RankSizes) = refl
 outcome-at (Refused Spent) = refl
 outcome-at (Refused Endurance) = refl
+outcome-at (Refused Seed) = refl
 
 pub outcome-by-number : (a b : Outcome) → outcomeNumber a ≡ outcomeNumber b → a ≡ b
 outcome-by-number a b e = sym (outcome-at a) ∙ ap (λ (k : ℕ). getD outcomes k Done) e ∙ outcome-at b

@@ -7,7 +7,7 @@
 --   Told A              an answer in the table's terms: its number, and the value of type A beside it
 --   answer checks a z   0 and the result a where all checks hold, else the number and the zeros z
 --   isSize n            n is from 3 to 12
---   checkRow            the order in which checks run: document 01's row, with 16 before 1, 17 after 1 and then 20, 13 before 3, 18 directly before 4, 14 after 3,
+--   checkRow            the order in which checks run: document 01's row, with 16 before 1, 21, 17 and 20 after it, 13 before 3, 18 directly before 4, 14 after 3,
 --                       19 after 8, and 15 last
 --   inRow checks row    checks are listed in the order of the row
 --
@@ -17,7 +17,7 @@ use mathlib.Core.Bool.{Bool, true, false, cond, _&&_}
 use mathlib.Core.List.{List, [], _∷_}
 use lib.Dec.{leb, eqb}
 use Rattle.order.specs.declared.Refusal.{Refusal}
-use Rattle.order.specs.declared.Refusal.the-variants.{Size, NoGroup, NoCell, NoOrder, NoSymbol, Blank, Lost, Worn, CapUp, ListShort, Coordinate, BadRecord, RunLimit, NoRaise, RoomShort, NoPage, Measurement, RankSizes, Spent, Endurance}
+use Rattle.order.specs.declared.Refusal.the-variants.{Size, NoGroup, NoCell, NoOrder, NoSymbol, Blank, Lost, Worn, CapUp, ListShort, Coordinate, BadRecord, RunLimit, NoRaise, RoomShort, NoPage, Measurement, RankSizes, Spent, Endurance, Seed}
 use Rattle.order.specs.declared.Outcome.{Outcome}
 use Rattle.order.specs.declared.Outcome.the-variants.{Done, Refused}
 
@@ -42,6 +42,7 @@ refusalNumber Measurement = 17
 refusalNumber RankSizes = 18
 refusalNumber Spent = 19
 refusalNumber Endurance = 20
+refusalNumber Seed = 21
 
 abbrev pub outcomeNumber : Outcome → ℕ
 outcomeNumber Done = 0
@@ -66,7 +67,7 @@ abbrev pub isSize : ℕ → Bool
 isSize n = leb 3 n && leb n 12
 
 abbrev pub checkRow : List ℕ
-checkRow = 12 ∷ 16 ∷ 13 ∷ 1 ∷ 17 ∷ 20 ∷ 2 ∷ 10 ∷ 3 ∷ 18 ∷ 4 ∷ 5 ∷ 11 ∷ 9 ∷ 14 ∷ 6 ∷ 7 ∷ 8 ∷ 19 ∷ 15 ∷ []
+checkRow = 12 ∷ 16 ∷ 13 ∷ 1 ∷ 21 ∷ 17 ∷ 20 ∷ 2 ∷ 10 ∷ 3 ∷ 18 ∷ 4 ∷ 5 ∷ 11 ∷ 9 ∷ 14 ∷ 6 ∷ 7 ∷ 8 ∷ 19 ∷ 15 ∷ []
 
 abbrev pub inRow : List (Bool × Refusal) → List ℕ → Bool
 inRow [] row = true

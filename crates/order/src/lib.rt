@@ -77,6 +77,7 @@ pub enum Refusal {
     RankSizes,
     Spent,
     Endurance,
+    Seed,
 }
 
 pub enum Outcome {
@@ -132,6 +133,7 @@ pub fn refusal_number(refusal: Refusal) -> u8
         Refusal::RankSizes => 18,
         Refusal::Spent => 19,
         Refusal::Endurance => 20,
+        Refusal::Seed => 21,
     }
 }
 
