@@ -16,3 +16,4 @@ pub mod Told
 pub mod Row
 pub mod Found
 pub mod Symbols
+pub mod NumberOfWords
