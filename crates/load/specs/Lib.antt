@@ -1,0 +1,2 @@
+pub mod Load
+pub mod Claims
