@@ -1,7 +1,8 @@
 // The engine for programs in C and Rust (`rt staticlib exports`): the interpreter of call records, the room that its text needs, the number of
-// codewords, and the numbers of the windows along a run. Each function takes anything, and equations with the definitions of `runs`, `code`
-// and `window` determine what it answers and leaves. Proved besides: a buffer of the length that `rm_room` answers takes the whole text (runs, proofs/Room).
+// codewords, the numbers of the windows along a run, and test loads. Each function takes anything, and equations with the definitions of `runs`,
+// `code`, `window` and `load` determine what it answers and leaves. Proved besides: a buffer of the length that `rm_room` answers takes the whole text (runs, proofs/Room).
 use code::WordsAnswer;
+use load::LoadAnswer;
 use window::WindowsAnswer;
 ghost use mathlib.Core.Path.{_≡_};
 ghost use mathlib.Core.List.{_++_};
@@ -11,6 +12,7 @@ ghost use Rattle.code.specs.Symbols.{wordsOf};
 ghost use Rattle.runs.specs.Text.{room, printed};
 ghost use Rattle.cell_run.specs.Run.{levelChecks};
 ghost use Rattle.window.specs.Calls.{windowsOf, numbersAfter, scratchAfter};
+ghost use Rattle.load.specs.Load.{loadOf, symbolsAfter};
 
 // Puts what `rmcalls` prints for an input at the start of out, and answers how many bytes that is. Where out is shorter than
 // `rm_room` of the input's length, it stays as it was, and the answer is 0.
@@ -61,4 +63,22 @@ pub extern "C" fn rm_windows(
         return order::refusal_number(refusal);
     }
     0
+}
+
+// Fills a list with the symbols of a test load of n cells, and hands back the last state. The answer is the number of a refusal, where the list
+// stays as it was and the state is 0, or 0.
+#[no_mangle]
+pub extern "C" fn rm_load(n: usize, seed: u32, list: &mut [u32], last: &mut u32) -> u8
+    ensures { λ r. ⌜ r ≡ loadOf n seed (length (now (list .entry))) .number ⌝ }
+    ensures { λ r. ⌜ now (list .exit) ≡ symbolsAfter n seed (now (list .entry)) ⌝ }
+    ensures { λ r. ⌜ now (last .exit) ≡ loadOf n seed (length (now (list .entry))) .value ⌝ }
+{
+    let answer = load::load(n, seed, list);
+    let mut number = 0;
+    *last = 0;
+    match answer {
+        LoadAnswer::Refused(refusal) => number = order::refusal_number(refusal),
+        LoadAnswer::Loaded(state) => *last = state,
+    }
+    number
 }

@@ -1,7 +1,7 @@
 // Runs the functions of `exports`, and `calls::run`, as a program that links them does: the number of codewords of n cells for n = 0 to 13; the
-// windows of a run of 14 cells, refused and done; for each file of data/ the room, the answers where a byte of it is missing and where none is, and
-// the text; and an input longer than is read. The expected text is not the engine's own: scripts/reference reckons the texts and, with --windows,
-// the windows; what lent lists hold besides is what request (a) of document 02 says, the run's levels and what stood there; K(n) is the number of
+// windows of a run of 14 cells, and loads, refused and done; for each file of data/ the room, the answers where a byte of it is missing and where none is, and
+// the text; and an input longer than is read. The expected text is not the engine's own: scripts/reference reckons the texts and, with --windows
+// and --load, the windows and the loads; what lent lists hold besides is what request (a) of document 02 says, the run's levels and what stood there; K(n) is the number of
 // ways to choose coordinates 1 to n - 1, coordinate i from 0 to i, such that the sum of i times coordinate i is divisible by 2n - 1, counted one
 // residue at a time.
 use libc::STDOUT_FILENO;
@@ -11,6 +11,7 @@ ghost use lib.ListN.{length};
 fn main() {
     words();
     windows();
+    loads();
     show(b"refusals");
     show(b"left");
     show(b"empty");
@@ -48,6 +49,28 @@ fn tell_windows(levels: &[u16], numbers: &mut [u32], places: usize, scratch: &mu
     number(b"rm_windows ", wide(answer));
     list_numbers(numbers);
     list_scratch(scratch);
+}
+
+// A size and a seed that are none, a seed that is none, a list without a place, and six symbols of 12 cells from seed 1.
+fn loads() {
+    let mut list: [u32; 6] = [7, 7, 7, 7, 7, 7];
+    tell_loads(&mut list);
+}
+
+fn tell_loads(list: &mut [u32]) {
+    tell_load(13, 0, list);
+    tell_load(12, 0, list);
+    tell_load(12, 9, &mut list[..0]);
+    tell_load(12, 1, list);
+}
+
+// The answer, the last state and the list.
+fn tell_load(n: usize, seed: u32, list: &mut [u32]) {
+    let mut last: u32 = 7;
+    let answer = exports::rm_load(n, seed, list, &mut last);
+    number(b"rm_load ", wide(answer));
+    number(b"state ", wide_number(last));
+    list_numbers(list);
 }
 
 fn list_numbers(numbers: &[u32]) {
