@@ -1,6 +1,7 @@
-// Runs the engine and the second implementation, `naive`, on the same orders and words. Prints for each part how many comparisons it made, how
+// Runs the engine and the second implementation, `naive`, on the same orders, words and loads. Prints for each part how many comparisons it made, how
 // many differed, and how many of the naive answers had each number of the refusal table, so that no part is empty. At each part stands how
 // many these must be, where K is the number of words; where the inputs are sampled, the numbers of their answers are counted and not foretold.
+mod loads;
 mod orders;
 mod words;
 
@@ -23,6 +24,8 @@ enum Part {
     // K / 256 and K / 4,096, rounded up. Then 16 sampled orders, 3 each, which a lost one refuses 7; and 4 for the end of the list, of which 3
     // are refused 5.
     Words,
+    // 64 seeds, one of them 0, and 0 to 40 places with a cut before or after each, 861 in all: a seed of 0 is refused 21, all else is done.
+    Loads,
 }
 
 // One part at one size.
@@ -38,6 +41,7 @@ fn run(r: Report, p: Part, n: usize) -> Report {
         ),
         Part::SampledOrders => part(r, b"sampled orders, n = ", n, orders::every_sample(n)),
         Part::Words => part(r, b"words, n = ", n, words::through(n, words::stride(n))),
+        Part::Loads => part(r, b"loads, n = ", n, loads::every_seed(n)),
     }
 }
 
@@ -59,5 +63,10 @@ fn main() {
     r = each(r, Part::Words, 3, 12);
     // 20 sizes, 12 comparisons each: of the 10 that a group has, 20 new groups, and 20 refused 20; 40 times no order, which is no refusal; all else refused 1.
     r = part(r, b"sizes, ", 20, words::every_size());
+    // One comparison each.
+    r = part(r, b"steps of a load, ", 4096, loads::steps());
+    r = each(r, Part::Loads, 3, 12);
+    // 20 sizes, 2 seeds, 861 comparisons each: all refused 1.
+    r = part(r, b"loads of no size, ", 20, loads::sizes());
     report::total(r);
 }

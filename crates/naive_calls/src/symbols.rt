@@ -68,6 +68,19 @@ pub fn words_before(values: [u8; 12], n: usize) -> u32 {
     counts[0]
 }
 
+// How many words there are: how many lists of coordinates whose weighted sum leaves 0.
+pub fn all_words(n: usize) -> u32 {
+    let mut counts = [0u32; 23];
+    counts[0] = 1;
+    for i in 0..12 {
+        if i < n {
+            let next = before_with(counts, 0, i, 0, n);
+            counts = next;
+        }
+    }
+    counts[0]
+}
+
 // The last list of coordinates that has at most so many words before it.
 fn last_list(n: usize, most: u32) -> [u8; 12] {
     let mut values = [0u8; 12];
