@@ -71,6 +71,50 @@ uint32_t rm_words(size_t n);
 uint8_t rm_windows(const uint16_t *levels, size_t levels_len, size_t width, size_t step,
                    uint32_t *numbers, size_t numbers_len, uint16_t *scratch, size_t scratch_len);
 
+/* A test load: symbols in a row that come out alike wherever they are made.
+ *
+ * The generator is the 32-bit xorshift of Marsaglia. A state is a uint32_t that is not 0; what these
+ * three lines make of a state x is the next one:
+ *   x ^= x << 13;
+ *   x ^= x >> 17;
+ *   x ^= x << 5;
+ * Bits that are shifted out are lost. From 1 the next state is 270369. The symbol of a state is the
+ * remainder that it leaves when divided by rm_words(n), so it is one that a store of n cells takes,
+ * 0 to rm_words(n) - 1.
+ *
+ * Where 0 is returned, all list_len places of list hold symbols. The first is that of the state after
+ * seed, not that of seed itself, and each further one is that of the next state. *last is then the
+ * last state, the one of the last symbol; where list_len is 0, it is seed. It is never 0.
+ *
+ * Otherwise list keeps what it held, *last is set to 0, which as the next seed is refused too, and
+ * the answer says why:
+ *    1  n is not 3 to 12
+ *   21  seed is 0
+ * 1 comes before 21, and both are said of a list of length 0 too.
+ *
+ * A load may be made in pieces, each with the last state of the one before as its seed. Wherever it is
+ * cut, the symbols and the last state are those of the load made whole. From any seed all 4,294,967,295
+ * states come before one comes again (this is tested, not proved).
+ *
+ * A load is for tests: for n = 3 and 4 a symbol is the lowest one or two bits of its state, and for
+ * other n some symbols are a little more frequent than others.
+ *
+ * For example, n = 5, for which rm_words is 14, seed 1 and four symbols:
+ *   state     270369 =     19312 * 14 +  1, symbol  1
+ *   state   67634689 =   4831049 * 14 +  3, symbol  3
+ *   state 2647435461 = 189102532 * 14 + 13, symbol 13
+ *   state  307599695 =  21971406 * 14 + 11, symbol 11
+ * *last is 307599695. A call for two symbols gives 1 and 3, and 67634689 in *last; the next call, for
+ * two more from the seed 67634689, gives 13 and 11, and 307599695 in *last.
+ *
+ * A symbol costs one division and ten to twenty other instructions; besides, a call finds rm_words(n)
+ * once.
+ *
+ * All memory stays the caller's, who sees to it that list and last are aligned and not null even where
+ * list_len is 0, that list has list_len elements, and that last points to none of these. What they held
+ * before is not read. */
+uint8_t rm_load(size_t n, uint32_t seed, uint32_t *list, size_t list_len, uint32_t *last);
+
 #ifdef __cplusplus
 }
 #endif

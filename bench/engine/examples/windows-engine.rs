@@ -1,5 +1,5 @@
 //! `windows-engine LENGTH WIDTH STEP ROUNDS` calls the engine's windows that many times; a checksum.
 
 fn main() {
-    twin::rounds::main(engine::windows);
+    twin::rounds::windows(engine::windows);
 }

@@ -15,6 +15,7 @@ unsafe extern "C" {
         scratch: *mut u16,
         scratch_len: usize,
     ) -> u8;
+    fn rm_load(n: usize, seed: u32, list: *mut u32, list_len: usize, last: *mut u32) -> u8;
     // these take any number
     safe fn rm_room(size: usize) -> usize;
     safe fn rm_words(n: usize) -> u32;
@@ -75,4 +76,17 @@ pub fn windows(
         )
     };
     if refusal == 0 { Ok(levels.len() / step) } else { Err(refusal) }
+}
+
+/// Fills `list` with symbols of n cells, the first from the state after `seed`; the last state, which is
+/// the seed where the list is empty. Where it is refused the list stays as it was, and the number of
+/// the refusal comes back: 1 or 21.
+pub fn load(n: usize, seed: u32, list: &mut [u32]) -> Result<u32, u8> {
+    let mut last = 0;
+    // SAFETY: one pointer is that of a slice, not null and aligned, with the slice's length after it,
+    // the other that of `last`, and both live until the call returns. They do not overlap, since `list`
+    // is borrowed mutably. The function has no other precondition, writes to these two alone, keeps no
+    // pointer, returns always.
+    let refusal = unsafe { rm_load(n, seed, list.as_mut_ptr(), list.len(), &mut last) };
+    if refusal == 0 { Ok(last) } else { Err(refusal) }
 }

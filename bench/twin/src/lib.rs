@@ -5,7 +5,8 @@
 //! - [`code`]: the one-error code, its numbering both ways and its decoder.
 //! - [`group`]: the group record and the plain machine.
 //! - [`windows`]: runs of cells, and the numbers of the windows along them.
-//! - [`rounds`]: calls for windows, repeated and summed up, for the benchmark.
+//! - [`load`]: test loads, symbols in a row by a generator.
+//! - [`rounds`]: calls for windows and for loads, repeated and summed up, for the benchmark.
 //! - [`calls`]: the program `rmcalls`, bytes in and text out.
 //! - [`refusal`]: the refusal table.
 
@@ -14,6 +15,7 @@
 pub mod calls;
 pub mod code;
 pub mod group;
+pub mod load;
 pub mod order;
 pub mod refusal;
 pub mod rounds;

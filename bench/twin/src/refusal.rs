@@ -20,6 +20,7 @@ pub enum Refusal {
     RoomShort = 15,
     Spent = 19,
     Endurance = 20,
+    Seed = 21,
 }
 
 impl Refusal {

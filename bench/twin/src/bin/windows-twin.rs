@@ -6,7 +6,7 @@ use twin::refusal::Refusal;
 use twin::{rounds, windows::windows};
 
 fn main() {
-    rounds::main(|levels, width, step, numbers, scratch| {
+    rounds::windows(|levels, width, step, numbers, scratch| {
         windows(levels, width, step, numbers, scratch).map_err(Refusal::number)
     });
 }
