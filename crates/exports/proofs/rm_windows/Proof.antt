@@ -1,26 +1,21 @@
 -- `exports::rm_windows` meets its contract: the answer's number, and the two lists as `windows_of_levels` left them.
 -- Assumes nothing.
 use borrow.Author.Needs.{needs}
-use mathlib.Core.Path.{_≡_, sym, ap, _∙_}
-use Prim.Native.Nat.{ℕ}
-use Rattle.order.specs.Refusals.{Told}
-use Rattle.window.specs.declared.WindowsAnswer.{WindowsAnswer}
+use mathlib.Core.Path.{_∙_}
 use Rattle.window.specs.Calls.{toldWindows}
+use Rattle.exports.proofs.Known.{number-of}
 use Rattle.exports.proofs.rm_windows.Statement.{statement}
 use Rattle.exports.proofs.rm_windows.Tie as tie
-
-number-of : {a b : WindowsAnswer} {t : Told ℕ} → a ≡ b → toldWindows a ≡ t → toldWindows b .number ≡ t .number
-number-of e h = ap (λ (t : Told ℕ). t .number) (sym (ap toldWindows e) ∙ h)
 
 returns : tie.Need-returns
 returns c =
     let answered = c .before .before .before .before .before .before .before .before .windows-of-levels .ensures in
-    (c .refusal-number .ensures ∙ number-of (c .before .before .answer .given .1) (answered .0), answered .1)
+    (c .refusal-number .ensures ∙ number-of toldWindows (c .before .before .answer .given .1) (answered .0), answered .1)
 
 returns-2 : tie.Need-returns-2
 returns-2 c =
     let answered = c .before .before .before .before .before .before .windows-of-levels .ensures in
-    (number-of (c .enum-told .given .1) (answered .0), answered .1)
+    (number-of toldWindows (c .enum-told .given .1) (answered .0), answered .1)
 
 pub rm-windows-spec : {M : Type 1} → statement M
 rm-windows-spec =
