@@ -1,4 +1,4 @@
--- An answer of any call, once it is known which one it is: its number and its value are those that the call's contract gives.
+-- An answer of a call whose value is a number, once it is known which answer it is: its number and its value are those that the call's contract gives.
 -- Assumes nothing.
 use mathlib.Core.Path.{_≡_, sym, ap, _∙_}
 use Prim.Native.Nat.{ℕ}

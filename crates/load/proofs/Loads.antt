@@ -4,8 +4,8 @@
 --   symbols-cut                symbols in two parts
 --   load-done, load-refused    the answer, case by case
 --   list-done, list-refused    the lent list
---   load-state                 the last state of a load is a state, so never 0
---   load-symbols               every symbol of a load is that of a codeword
+--   load-state                 the last state of a load that is not refused is a state, so never 0
+--   load-symbols               every symbol of a load that is not refused is that of a codeword
 --   load-whole                 a load cut anywhere in two is the load made whole
 -- Assumes nothing.
 use Prim.Native.Nat.{ℕ, zero, suc, _+_, _%_, _^_, _<_}

@@ -1,7 +1,7 @@
 // A test load (document 02, request (i)): symbols by the 32-bit xorshift of Marsaglia, the same on every bench. Each public function takes any value
 // and answers it by one equation with a definition of specs/; a second one fixes the list that `load` is lent. Proved besides: the step is one-to-one,
-// and no state becomes 0 (proofs/States); every symbol is that of a codeword, and a load that is cut anywhere in two is the load made whole
-// (specs/Claims, proofs/Loads).
+// and no state becomes 0 (proofs/States); every symbol that is filled in is that of a codeword, and a load that is cut anywhere in two is the load made
+// whole (specs/Claims, proofs/Loads).
 use code::WordsAnswer;
 use order::Refusal;
 ghost use mathlib.Core.Path.{_≡_};
