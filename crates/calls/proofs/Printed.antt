@@ -30,45 +30,45 @@ first_put {out} {last} {t} {u} {end} e w =
 
 module _ (p : Progress) (bs out : List ℕ) where
   -- a piece that is not taken leaves the buffer and the run as they were
-  pub piece-refused : goes_on p bs out ≡ false → (record { end = 0; progress = p } ≡ piece_of p bs out) × (out ≡ lines_printed p bs out ++ out)
+  pub piece_refused : goes_on p bs out ≡ false → (record { end = 0; progress = p } ≡ piece_of p bs out) × (out ≡ lines_printed p bs out ++ out)
   unfolding piece_of lines_printed
-  piece-refused e = rw e (refl, refl)
+  piece_refused e = rw e (refl, refl)
 
   pub end_refused : ends p bs out ≡ false → (0 ≡ length (end_printed p bs out)) × (out ≡ end_printed p bs out ++ out)
   unfolding end_printed
   end_refused e = rw e (refl, refl)
 
   module _ (e : goes_on p bs out ≡ true) where
-    lines-printed : lines_from p (records bs) ≡ lines_printed p bs out
+    lines_printed_lem : lines_from p (records bs) ≡ lines_printed p bs out
     unfolding lines_printed
-    lines-printed = rw e refl
+    lines_printed_lem = rw e refl
 
-    piece-same : (r : PieceAnswer) → r.end ≡ length (lines_printed p bs out) → r.progress ≡ progress_after p (records bs) → r ≡ piece_of p bs out
+    piece_same : (r : PieceAnswer) → r.end ≡ length (lines_printed p bs out) → r.progress ≡ progress_after p (records bs) → r ≡ piece_of p bs out
     unfolding piece_of
-    piece-same r l q = rw e (λ i. record { end = l i; progress = q i })
+    piece_same r l q = rw e (λ i. record { end = l i; progress = q i })
 
-    pub piece-put : {last : List ℕ} (r : PieceAnswer) → Puts out last 0 r.end (lines_from p (records bs)) → r.progress ≡ progress_after p (records bs)
+    pub piece_put : {last : List ℕ} (r : PieceAnswer) → Puts out last 0 r.end (lines_from p (records bs)) → r.progress ≡ progress_after p (records bs)
         → (r ≡ piece_of p bs out) × (last ≡ lines_printed p bs out ++ drop r.end out)
-    piece-put {last} r w q =
-        let t : (r.end ≡ length (lines_printed p bs out)) × (last ≡ lines_printed p bs out ++ drop r.end out) = first_put lines-printed w in
-        (piece-same r t.0 q, t.1)
+    piece_put {last} r w q =
+        let t : (r.end ≡ length (lines_printed p bs out)) × (last ≡ lines_printed p bs out ++ drop r.end out) = first_put lines_printed_lem w in
+        (piece_same r t.0 q, t.1)
 
   module _ (e : ends p bs out ≡ true) where
-    text-printed : (q : Progress) → q ≡ progress_after p (records bs)
+    text_printed : (q : Progress) → q ≡ progress_after p (records bs)
         → lines_from p (records bs) ++ left_line (length bs % 8) ++ sum_line q.pulses ≡ end_printed p bs out
     unfolding end_printed text_from
-    text-printed q s = rw e (ap (λ (x : Progress). lines_from p (records bs) ++ left_line (length bs % 8) ++ sum_line x.pulses) s)
+    text_printed q s = rw e (ap (λ (x : Progress). lines_from p (records bs) ++ left_line (length bs % 8) ++ sum_line x.pulses) s)
 
-    pub end-put : {last : List ℕ} {end : ℕ} (q : Progress) → q ≡ progress_after p (records bs)
+    pub end_put : {last : List ℕ} {end : ℕ} (q : Progress) → q ≡ progress_after p (records bs)
         → Puts out last 0 end (lines_from p (records bs) ++ left_line (length bs % 8) ++ sum_line q.pulses)
         → (end ≡ length (end_printed p bs out)) × (last ≡ end_printed p bs out ++ drop end out)
-    end-put q s w = first_put (text-printed q s) w
+    end_put q s w = first_put (text_printed q s) w
 
 -- ---- a whole input
 
 module _ (bs : List ℕ) (size : ℕ) (e : size ≡ min 65536 (length bs)) where
-  pub part-taken : take size bs ≡ taken bs
-  part-taken = by (leb 65536 (length bs)) refl
+  pub part_taken : take size bs ≡ taken bs
+  part_taken = by (leb 65536 (length bs)) refl
     where
       by : (b : Bool) → leb 65536 (length bs) ≡ b → take size bs ≡ taken bs
       by true h =
@@ -80,8 +80,8 @@ module _ (bs : List ℕ) (size : ℕ) (e : size ≡ min 65536 (length bs)) where
           take_all size bs (omega (arith, e)) ∙ sym (take_all 65536 bs (omega arith))
 
   -- the bytes that are read are taken where the buffer has room for them
-  pub whole-printed : (out : List ℕ) → end_printed beginning (take size bs) out ≡ printed bs out
+  pub whole_printed : (out : List ℕ) → end_printed beginning (take size bs) out ≡ printed bs out
   unfolding end_printed printed
-  whole-printed out =
+  whole_printed out =
       let few : 8 * 0 + length (taken bs) ≤ 65536 = omega (arith, length-take 65536 bs) in
-      rw (part-taken, le-leb (8 * 0 + length (taken bs)) 65536 few, text_begun (taken bs)) refl
+      rw (part_taken, le-leb (8 * 0 + length (taken bs)) 65536 few, text_begun (taken bs)) refl

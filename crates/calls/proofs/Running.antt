@@ -12,7 +12,7 @@ use lib.Seq.{drop-cons, drop-length}
 use borrow.Author.Tests.{leb-true}
 use Rattle.order.specs.Refusals.{Told}
 use Rattle.order.proofs.Cells.{both}
-use Rattle.order.proofs.Tabulate.{length-tabulate, get_d_tabulate}
+use Rattle.order.proofs.Tabulate.{length_tabulate, get_d_tabulate}
 use Rattle.records.specs.declared.CallRecord.{CallRecord}
 use Rattle.records.specs.declared.Answered.{Answered}
 use Rattle.runs.specs.declared.Progress.{Progress}
@@ -22,7 +22,7 @@ use Rattle.runs.specs.Text.{lines, all_pulses, room}
 use Rattle.runs.specs.Pieces.{progress_after, lines_from, takes}
 use Rattle.lines.specs.Puts.{Puts}
 use Rattle.lines.proofs.Paste.{puts_none, puts_join, puts_as}
-use Rattle.lines.proofs.InRoom.{Put, put-line}
+use Rattle.lines.proofs.InRoom.{Put, put_line_lem}
 use Rattle.runs.proofs.Follow.{lines_follow, progress_follows}
 
 -- what it is that a run takes a piece
@@ -35,7 +35,7 @@ taken_parts k q size space e =
 next_record : (bs : List ℕ) (i : ℕ) → i < length bs / 8 → drop i (records bs) ≡ record_at bs i ∷ drop (i + 1) (records bs)
 unfolding records
 next_record bs i h =
-    let l : length (records bs) ≡ length bs / 8 = length-tabulate (length bs / 8) (record_at bs) in
+    let l : length (records bs) ≡ length bs / 8 = length_tabulate (length bs / 8) (record_at bs) in
     let next : suc i ≡ i + 1 = omega arith in
     drop-cons (records bs) i (record_at bs i) (omega arith)
     ∙ ap (λ (r : CallRecord). r ∷ drop (suc i) (records bs)) (get_d_tabulate (length bs / 8) (record_at bs) i (record_at bs i) h)
@@ -44,7 +44,7 @@ next_record bs i h =
 none_left : (bs : List ℕ) → drop (length bs / 8) (records bs) ≡ []
 unfolding records
 none_left bs =
-    ap (λ (k : ℕ). drop k (records bs)) (sym (length-tabulate (length bs / 8) (record_at bs))) ∙ drop-length (records bs)
+    ap (λ (k : ℕ). drop k (records bs)) (sym (length_tabulate (length bs / 8) (record_at bs))) ∙ drop-length (records bs)
 
 -- one record more
 module _ (q : Progress) (r : CallRecord) (a : Answered) (s : told_answered a ≡ step_of q.group r) where
@@ -55,9 +55,9 @@ module _ (q : Progress) (r : CallRecord) (a : Answered) (s : told_answered a ≡
       ap (λ (t : Told Answer). q.pulses + (t.value.pulses + 0)) (sym s) ∙ ap (λ (k : ℕ). q.pulses + k) (add-zero a.pulses) in
       λ i. record { position = q.position + 1; group = (ap (λ (t : Told Answer). t.value.group) (sym s)) i; pulses = pulses i }
 
-  pub line-one : lines_from q (r ∷ []) ≡ line_of (q.position + 1) r.kind (told_answered a)
+  pub line_one : lines_from q (r ∷ []) ≡ line_of (q.position + 1) r.kind (told_answered a)
   unfolding lines
-  line-one =
+  line_one =
       let next : suc q.position ≡ q.position + 1 = omega arith in
       append-nil _ ∙ ap (λ (t : Told Answer). line_of (suc q.position) r.kind t) (sym s)
       ∙ ap (λ (k : ℕ). line_of k r.kind (told_answered a)) next
@@ -106,7 +106,7 @@ running_steps {p} {q} {bs} {empty} {now} {later} {count} {end} {next} {i} {r} a 
     let here : drop i (records bs) ≡ r ∷ rs = next_record bs i (omega (arith, run.whole)) ∙ ap (λ (x : CallRecord). x ∷ rs) (sym e) in
     let one : progress_after q (r ∷ []) ≡ after = after_one q r a s in
     let text : lines_from q (drop i (records bs)) ≡ line ++ lines_from after rs =
-    ap (lines_from q) here ∙ lines_follow q (r ∷ []) rs ∙ ap (λ (t : List ℕ). t ++ lines_from (progress_after q (r ∷ [])) rs) (line-one q r a s)
+    ap (lines_from q) here ∙ lines_follow q (r ∷ []) rs ∙ ap (λ (t : List ℕ). t ++ lines_from (progress_after q (r ∷ [])) rs) (line_one q r a s)
     ∙ ap (λ (x : Progress). line ++ lines_from x rs) one in
     record {
       whole = run.whole;
@@ -117,7 +117,7 @@ running_steps {p} {q} {bs} {empty} {now} {later} {count} {end} {next} {i} {r} a 
       place = omega (arith, run.place);
       small = omega (arith, run.small);
       said = run.said ++ line;
-      puts = puts_join run.puts (put-line 128 end line now (omega (arith, h, run.within, run.room, run.puts.kept)) w);
+      puts = puts_join run.puts (put_line_lem 128 end line now (omega (arith, h, run.within, run.room, run.puts.kept)) w);
       rest = append_assoc run.said line (lines_from after rs) ∙ ap (λ (t : List ℕ). run.said ++ t) (sym text) ∙ run.rest;
       goes =
           ap (λ (x : Progress). progress_after x rs) (sym one) ∙ sym (progress_follows q (r ∷ []) rs) ∙ ap (progress_after q) (sym here) ∙ run.goes;
@@ -128,9 +128,9 @@ module _ {p q : Progress} {bs empty now : List ℕ} {count end i : ℕ} (run : R
   nothing_left : drop i (records bs) ≡ []
   nothing_left = let e : i ≡ length bs / 8 = omega (arith, run.reached, run.whole) in ap (λ (k : ℕ). drop k (records bs)) e ∙ none_left bs
 
-  pub lines-put : Puts empty now 0 end (lines_from p (records bs))
+  pub lines_put : Puts empty now 0 end (lines_from p (records bs))
   unfolding lines
-  lines-put =
+  lines_put =
       puts_as (sym (append-nil run.said) ∙ ap (λ (rs : List CallRecord). run.said ++ lines_from q rs) (sym nothing_left) ∙ run.rest) run.puts
 
   after_none : (x : Progress) → x ≡ progress_after x []
@@ -140,5 +140,5 @@ module _ {p q : Progress} {bs empty now : List ℕ} {count end i : ℕ} (run : R
       let pulses : x.pulses ≡ x.pulses + 0 = sym (add-zero x.pulses) in
       λ j. record { position = records j; group = x.group; pulses = pulses j }
 
-  pub progress-made : q ≡ progress_after p (records bs)
-  progress-made = after_none q ∙ ap (progress_after q) (sym nothing_left) ∙ run.goes
+  pub progress_made : q ≡ progress_after p (records bs)
+  progress_made = after_none q ∙ ap (progress_after q) (sym nothing_left) ∙ run.goes

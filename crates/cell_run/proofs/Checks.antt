@@ -22,11 +22,11 @@ pub length-true : (n : ℕ) → is_length n ≡ true → (3 ≤ n) × (n ≤ 128
 length-true n e = let t = both (leb 3 n) (leb n 128) e in (leb-true 3 n t.0, leb-true n 128 t.1)
 
 module _ (r : Run) (d : number_of (run_checks r) ≡ 0) where
-  pub checked-length : (3 ≤ r.len) × (r.len ≤ 128)
-  checked-length = length-true r.len (check_held (is_length r.len) RunLimit _ d).0
+  pub checked_length : (3 ≤ r.len) × (r.len ≤ 128)
+  checked_length = length-true r.len (check_held (is_length r.len) RunLimit _ d).0
 
-  pub checked-row : is_row 4095 r.len r.levels ≡ true
-  checked-row = (check_held (is_row 4095 r.len r.levels) RunLimit [] (check_held (is_length r.len) RunLimit _ d).1).0
+  pub checked_row : is_row 4095 r.len r.levels ≡ true
+  checked_row = (check_held (is_row 4095 r.len r.levels) RunLimit [] (check_held (is_length r.len) RunLimit _ d).1).0
 
 -- a width and a step that pass
 pub record Limits (n width step : ℕ) : Type 0 where
@@ -49,4 +49,4 @@ pub checked_cell : (r : Run) (c : Cell) → number_of (cell_checks r c) ≡ 0 �
 checked_cell r c d =
     let t = all_held _ (run_checks r) d in
     let range = cell_true r.len c.0 (check_held (is_cell r.len c.0) NoCell [] t.1).0 in
-    (range.0, omega (arith, range.1, checked-length r t.0))
+    (range.0, omega (arith, range.1, checked_length r t.0))

@@ -14,7 +14,7 @@ use Rattle.order.specs.declared.Refusal.TheVariants.{NoCell, RunLimit, NoRaise}
 use Rattle.order.specs.Refusals.{number_of}
 use Rattle.order.specs.Cells.{is_cell}
 use Rattle.order.proofs.Cells.{both}
-use Rattle.order.proofs.Refusals.{check_held, check-holds, all_held, all_hold}
+use Rattle.order.proofs.Refusals.{check_held, check_holds, all_held, all_hold}
 use Rattle.group.specs.Levels.{level, put}
 use Rattle.group.specs.Record.{all_at_most, is_row}
 use Rattle.group.proofs.Checks.{cell_true}
@@ -22,7 +22,7 @@ use Rattle.group.proofs.Groups.{told_value, told_accepted}
 use Rattle.group.proofs.LevelRows.{zeros_row}
 use Rattle.cell_run.specs.declared.Run.{Run}
 use Rattle.cell_run.specs.Run.{is_length, run_checks, level_checks, opened_run, no_run, is_raise, cell_checks, raise_checks, raised_run, open_run_of, raise_cell_of}
-use Rattle.cell_run.proofs.Checks.{checked-length, checked-row}
+use Rattle.cell_run.proofs.Checks.{checked_length, checked_row}
 use Rattle.cell_run.proofs.Rows.{row_split}
 
 -- a record that passes the checks, with its 128 levels
@@ -31,7 +31,7 @@ pub record IsRun (r : Run) : Type 0 where
   pub levels : length r.levels ≡ 128
 
 run_of : (n : ℕ) (ls : List ℕ) → is_length n ≡ true → is_row 4095 n ls ≡ true → length ls ≡ 128 → IsRun (record { len = n; levels = ls })
-run_of n ls l r w = record { passes = check-holds _ _ l ∙ check-holds _ _ r ∙ all_hold; levels = w }
+run_of n ls l r w = record { passes = check_holds _ _ l ∙ check_holds _ _ r ∙ all_hold; levels = w }
 
 pub open_run : (n : ℕ) → (open_run_of n).number ≡ 0 → IsRun (open_run_of n).value
 unfolding open_run_of
@@ -61,14 +61,14 @@ raise_run r c v h =
     let up = (check_held (is_raise (level r.levels c.0) v) NoRaise [] t.1).0 in
     let high = leb-true v 4095 (both (leb (level r.levels c.0) v) (leb v 4095) up).1 in
     run_of r.len (set r.levels (c.0 - 1) v) (check_held (is_length r.len) RunLimit _ h.passes).0
-    (row_set 4095 r.len r.levels (c.0 - 1) v (omega (arith, cell)) high (checked-row r h.passes))
+    (row_set 4095 r.len r.levels (c.0 - 1) v (omega (arith, cell)) high (checked_row r h.passes))
     (length-set r.levels (c.0 - 1) v ∙ h.levels)) h
 
 -- its levels, handed in as a list, pass too
 pub levels_pass : (r : Run) → IsRun r → number_of (level_checks (take r.len r.levels)) ≡ 0
 levels_pass r h =
     let ls = take r.len r.levels in
-    let size : length ls ≡ r.len = length-take-le r.len r.levels (omega (arith, checked-length r h.passes, h.levels)) in
+    let size : length ls ≡ r.len = length-take-le r.len r.levels (omega (arith, checked_length r h.passes, h.levels)) in
     let long : is_length (length ls) ≡ true = ap is_length size ∙ (check_held (is_length r.len) RunLimit _ h.passes).0 in
-    let row = row_split 4095 r.len r.levels ∙ checked-row r h.passes in
-    check-holds _ _ long ∙ check-holds _ _ (both (all_at_most 4095 ls) (all_at_most 0 (drop r.len r.levels)) row).0 ∙ all_hold
+    let row = row_split 4095 r.len r.levels ∙ checked_row r h.passes in
+    check_holds _ _ long ∙ check_holds _ _ (both (all_at_most 4095 ls) (all_at_most 0 (drop r.len r.levels)) row).0 ∙ all_hold

@@ -17,8 +17,8 @@ use Rattle.group.specs.Record.{is_endurance, group_checks, IsGroup, opened, no_g
 use Rattle.changes.specs.Changes.{open_checks, cell_checks, open_of, leak_of, wear_of, erase_of}
 use Rattle.group.proofs.Levels.{at_most_refl, at_most_length, put_below, leaked_below}
 use Rattle.group.proofs.LevelRows.{row_below, zeros_row, full_row}
-use Rattle.group.proofs.Checks.{rules_hold, checked-levels}
-use Rattle.group.proofs.Groups.{told_value, told_accepted, group-kept}
+use Rattle.group.proofs.Checks.{rules_hold, checked_levels}
+use Rattle.group.proofs.Groups.{told_value, told_accepted, group_kept}
 
 pub open_group : (n e : ℕ) → (open_of n e).number ≡ 0 → IsGroup (open_of n e).value
 unfolding open_of
@@ -50,7 +50,7 @@ unfolding leak_of
 leak_group g c d h =
     let low = leaked_below c.0 d g.levels in
     told_value IsGroup (cell_checks g c) _ g
-    (λ e. group-kept g h _ g.caps _ (row_below 4095 g.n low (checked-levels g h.passes)) (at_most_length low ∙ h.levels) (at_most_refl g.caps)) h
+    (λ e. group_kept g h _ g.caps _ (row_below 4095 g.n low (checked_levels g h.passes)) (at_most_length low ∙ h.levels) (at_most_refl g.caps)) h
 
 pub wear_group : (g : Group) (c : Cell) (cap : ℕ) → IsGroup g → IsGroup (wear_of g c cap).value
 unfolding wear_of
@@ -58,9 +58,9 @@ wear_group g c cap h =
     told_value IsGroup (cell_checks g c ++ (leb cap (level g.caps c.0), CapUp) ∷ []) _ g
     (λ e.
     let l = leb-true cap (level g.caps c.0) (check_held _ CapUp [] (all_held _ (cell_checks g c) e).1).0 in
-    group-kept g h g.levels _ _ (checked-levels g h.passes) h.levels (put_below c.0 cap (at_most_refl g.caps) l)) h
+    group_kept g h g.levels _ _ (checked_levels g h.passes) h.levels (put_below c.0 cap (at_most_refl g.caps) l)) h
 
 pub erase_group : (g : Group) → IsGroup g → IsGroup (erase_of g).value
 unfolding erase_of
 erase_group g h =
-    told_value IsGroup (group_checks g) _ g (λ e. group-kept g h (replicate 12 0) g.caps _ (zeros_row 4095 g.n 12) refl (at_most_refl g.caps)) h
+    told_value IsGroup (group_checks g) _ g (λ e. group_kept g h (replicate 12 0) g.caps _ (zeros_row 4095 g.n 12) refl (at_most_refl g.caps)) h

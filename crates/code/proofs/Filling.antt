@@ -13,9 +13,9 @@ use Rattle.code.specs.declared.Choice.{Choice}
 use Rattle.code.specs.Words.{K, word_at, words, vectors}
 use Rattle.code.specs.Tails.{tails}
 use Rattle.code.specs.Steps.{held, Choosing, Chosen}
-use Rattle.code.proofs.Numbering.{words_from, owed-lt, word-right}
-use Rattle.code.proofs.Laws.{K-entry, word-is-word, word_of_lem}
-use Rattle.code.proofs.Steps.{word_from, word-step}
+use Rattle.code.proofs.Numbering.{words_from, owed_lt, word_right}
+use Rattle.code.proofs.Laws.{K-entry, word_is_word, word_of_lem}
+use Rattle.code.proofs.Steps.{word_from, word_step}
 
 drop-replicate : (k n a : ℕ) → drop k (replicate n a) ≡ replicate (n - k) a
 drop-replicate zero n a = rw sub-zero
@@ -63,16 +63,16 @@ module _ (n symbol : ℕ) (values : List ℕ) (number r i : ℕ) (f : Filling n 
         known = f.known;
         first = omega arith;
         last = omega arith;
-        residue = rw e (owed-lt (modulus n) (omega arith) i r c.value);
+        residue = rw e (owed_lt (modulus n) (omega arith) i r c.value);
         some = rw e chosen.left;
-        stored = rw (e, place) (rw (word-step at c.value chosen.range number c.number chosen.split chosen.left) at f.stored);
+        stored = rw (e, place) (rw (word_step at c.value chosen.range number c.number chosen.split chosen.left) at f.stored);
       }
 
   pub end : n ≤ i → ◌≡◌ {A = Coordinates} (record { len = n - 1; values = values }) (held (word_at n symbol))
   unfolding tails
   end h =
-      let whole = (word-right (modulus n) (omega arith) (n - 1) (n - i) i r number (omega arith) f.residue f.some).0 in
+      let whole = (word_right (modulus n) (omega arith) (n - 1) (n - i) i r number (omega arith) f.residue f.some).0 in
       let none : word_from n i r number ≡ [] = drop_of_length-le (word_from n i r number) {i = 0} (omega arith) in
       let all : values ≡ sets (replicate 11 0) 0 (word_at n symbol) = rw none at f.stored in
-      let size : length (word_at n symbol) ≡ n - 1 = (word_of_lem n (word_at n symbol) (word-is-word n (omega arith) symbol f.known.some)).size in
+      let size : length (word_at n symbol) ≡ n - 1 = (word_of_lem n (word_at n symbol) (word_is_word n (omega arith) symbol f.known.some)).size in
       rw (all, stored_front (word_at n symbol) (omega arith), size)

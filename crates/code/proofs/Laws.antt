@@ -18,7 +18,7 @@ use Rattle.code.specs.Tails.{tails, Entry, Block}
 use Rattle.code.specs.Steps.{is_word}
 use Rattle.code.proofs.Tests.{is_true}
 use Rattle.code.proofs.Lists.{get_d_index}
-use Rattle.code.proofs.Numbering.{words_from, count, found, number_word, word-right}
+use Rattle.code.proofs.Numbering.{words_from, count, found, number_word, word_right}
 
 -- what it takes to be a word
 pub record Word (n : ℕ) (x : List ℕ) : Type 0 where
@@ -67,14 +67,14 @@ module _ (n : ℕ) (pos : 0 < n) where
       let start : (1 - 1) * modulus n + 0 ≡ 0 = omega arith in
       rw start at (b.at 1 0 (record { low = l; high = h; first = omega arith; last = omega arith; residue = omega arith })) ∙ K-entry
 
-  pub number-of-word : (s : ℕ) → s < K n → word_number n (word_at n s) ≡ s
+  pub number_of_word : (s : ℕ) → s < K n → word_number n (word_at n s) ≡ s
   unfolding word_number word_at tails words words_from vectors
-  number-of-word s h = number_word (modulus n) (omega arith) (n - 1) 1 0 s (omega arith) (rw (← K-entry) at h)
+  number_of_word s h = number_word (modulus n) (omega arith) (n - 1) 1 0 s (omega arith) (rw (← K-entry) at h)
 
-  pub word-is-word : (s : ℕ) → s < K n → is_word n (word_at n s) ≡ true
+  pub word_is_word : (s : ℕ) → s < K n → is_word n (word_at n s) ≡ true
   unfolding word_at tails words words_from vectors
-  word-is-word s h =
-      let (size, range, sum) = word-right (modulus n) (omega arith) (n - 1) (n - 1) 1 0 s (omega arith) (omega arith) (rw (← K-entry) at h) in
+  word_is_word s h =
+      let (size, range, sum) = word_right (modulus n) (omega arith) (n - 1) (n - 1) 1 0 s (omega arith) (omega arith) (rw (← K-entry) at h) in
       of_word n (word_at n s) (record { size = size; range = range; sum = sum })
 
   pub number_below : (x : List ℕ) → is_word n x ≡ true → word_number n x < K n
@@ -83,14 +83,14 @@ module _ (n : ℕ) (pos : 0 < n) where
       let t = word_of_lem n x w in
       rw (← K-entry, ← t.size) (found (modulus n) (omega arith) (n - 1) x 1 0 (omega arith) t.range t.sum)
 
-  pub word-of-number : (x : List ℕ) → is_word n x ≡ true → word_at n (word_number n x) ≡ x
+  pub word_of_number : (x : List ℕ) → is_word n x ≡ true → word_at n (word_number n x) ≡ x
   unfolding word_number word_at K
-  word-of-number x w = get_d_index x (words n) [] (number_below x w)
+  word_of_number x w = get_d_index x (words n) [] (number_below x w)
 
   -- there is a codeword: its coordinates are all 0
-  pub some-symbol : 0 < K n
+  pub some_symbol : 0 < K n
   unfolding leaves
-  some-symbol =
+  some_symbol =
       let x : List ℕ = replicate (n - 1) 0 in
       let w : Word n x = record { size = length-replicate (n - 1) 0; range = zeros_in_range (n - 1) 1 (n - 1); sum = rw (weight_zeros 1 (n - 1), zero-mod (modulus n)) tt } in
       omega (arith, number_below x (of_word n x w))

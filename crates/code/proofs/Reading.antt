@@ -11,8 +11,8 @@ use Rattle.order.specs.declared.Refusal.{Refusal}
 use Rattle.order.specs.declared.Refusal.TheVariants.{Lost}
 use Rattle.order.specs.Refusals.{refusal_number, outcome_number, number_of, if_done, Told, answer, is_size}
 use Rattle.order.specs.Order.{listed, order_checks, order_record, no_order}
-use Rattle.order.proofs.Refusals.{told-done, told-refused, size_in}
-use Rattle.order.proofs.Records.{passed, passed-listed}
+use Rattle.order.proofs.Refusals.{told_done, told_refused, size_in}
+use Rattle.order.proofs.Records.{passed, passed_listed}
 use Rattle.coordinates.specs.declared.Coordinates.{Coordinates}
 use Rattle.coordinates.specs.Coordinates.{coordinates_to}
 use Rattle.coordinates.specs.Conversion.{coordinates_of}
@@ -20,15 +20,15 @@ use Rattle.distance.specs.Distance.{exchange}
 use Rattle.decoder.specs.declared.NearestAnswer.{NearestAnswer}
 use Rattle.decoder.specs.Decoding.{is_codeword, correction}
 use Rattle.decoder.specs.Nearest.{decode_checks, exchanged_order, told_nearest, nearest_of}
-use Rattle.decoder.proofs.Stores.{same_length, same-list, exchanged-passes}
-use Rattle.decoder.proofs.NearestWord.{lost-number, found_number, word_near, decoded-order, near-codeword, nearest-number, nearest-zeros, nearest-word, nearest-place, nearest-coordinates}
+use Rattle.decoder.proofs.Stores.{same_length, same_list_lem, exchanged_passes}
+use Rattle.decoder.proofs.NearestWord.{lost_number, found_number, word_near, decoded_order, near_codeword, nearest_number, nearest_zeros, nearest_word, nearest_place, nearest_coordinates}
 use Rattle.code.specs.declared.Verdict.{Verdict}
 use Rattle.code.specs.declared.Verdict.TheVariants.{Clean, PutRight}
 use Rattle.code.specs.Words.{word_number, symbol_of}
 use Rattle.code.specs.Symbols.{Reading, WordRead, no_reading, verdict_at, reading_at, decode_of, corrected_of}
 use Rattle.code.specs.Steps.{is_word}
-use Rattle.code.proofs.Scanning.{cut, cut-coordinates, cells_of}
-use Rattle.code.proofs.Codewords.{codeword-word}
+use Rattle.code.proofs.Scanning.{cut, cut_coordinates, cells_of}
+use Rattle.code.proofs.Codewords.{codeword_word}
 
 -- ---- the coordinates of a codeword
 
@@ -39,18 +39,18 @@ module _ (o : Order) (d : number_of (order_checks o) ≡ 0) (x : Coordinates) (e
   cells : x.len + 1 ≡ o.len
   cells = rw e (cells_of o low (passed o d).1)
 
-  same-cut : cut x ≡ coordinates_to (o.len - 1) (listed o)
-  same-cut = rw e (cut-coordinates o low (passed o d).1)
+  same_cut : cut x ≡ coordinates_to (o.len - 1) (listed o)
+  same_cut = rw e (cut_coordinates o low (passed o d).1)
 
   -- they have a number, which is its own
-  coordinates-word : is_codeword o.len (listed o) ≡ true → (is_size (x.len + 1) ≡ true) × (is_word (x.len + 1) (cut x) ≡ true)
-  coordinates-word c =
-      rw (cells, same-cut)
-      (size_in o.len (passed o d).0 (passed o d).1, codeword-word o.len low (listed o) (passed-listed o d) c)
+  coordinates_word : is_codeword o.len (listed o) ≡ true → (is_size (x.len + 1) ≡ true) × (is_word (x.len + 1) (cut x) ≡ true)
+  coordinates_word c =
+      rw (cells, same_cut)
+      (size_in o.len (passed o d).0 (passed o d).1, codeword_word o.len low (listed o) (passed_listed o d) c)
 
-  coordinates-number : word_number (x.len + 1) (cut x) ≡ symbol_of o.len (listed o)
+  coordinates_number : word_number (x.len + 1) (cut x) ≡ symbol_of o.len (listed o)
   unfolding symbol_of
-  coordinates-number = rw (cells, same-cut)
+  coordinates_number = rw (cells, same_cut)
 
 -- ---- the verdict
 
@@ -64,33 +64,33 @@ put_right_at (suc k) l = refl
 -- ---- the answer, by that of the decoder
 
 module _ (o : Order) (a : NearestAnswer) (e : told_nearest a ≡ nearest_of o) where
-  pub corrected-refused : (r : Refusal) → a.outcome ≡ Refused r
+  pub corrected_refused : (r : Refusal) → a.outcome ≡ Refused r
       → record { number = refusal_number r; value = record { reading = no_reading; word = a.word } } ≡ corrected_of o
   unfolding corrected_of
-  corrected-refused r q =
-      let d : number_of (decode_checks o) ≡ refusal_number r = sym (nearest-number o a e) ∙ ap outcome_number q in
-      rw (nearest-zeros o a e r d) (told-refused _ _ _ r d)
+  corrected_refused r q =
+      let d : number_of (decode_checks o) ≡ refusal_number r = sym (nearest_number o a e) ∙ ap outcome_number q in
+      rw (nearest_zeros o a e r d) (told_refused _ _ _ r d)
 
   module _ (d : number_of (decode_checks o) ≡ 0) where
     abbrev k : ℕ
     k = correction o.len (listed o)
 
-    near-passes : number_of (order_checks (word_near o)) ≡ 0
-    near-passes = exchanged-passes o (decoded-order o d) k
+    near_passes : number_of (order_checks (word_near o)) ≡ 0
+    near_passes = exchanged_passes o (decoded_order o d) k
 
     -- the codeword has a number
     pub found_word : (is_size (a.coordinates.len + 1) ≡ true) × (is_word (a.coordinates.len + 1) (cut a.coordinates) ≡ true)
-    found_word = coordinates-word (word_near o) near-passes a.coordinates (nearest-coordinates o a e d) (near-codeword o d)
+    found_word = coordinates_word (word_near o) near_passes a.coordinates (nearest_coordinates o a e d) (near_codeword o d)
 
-    found-symbol : word_number (a.coordinates.len + 1) (cut a.coordinates) ≡ symbol_of o.len (exchange k (listed o))
-    found-symbol =
-        coordinates-number (word_near o) near-passes a.coordinates (nearest-coordinates o a e d)
-        ∙ rw (same-list o (decoded-order o d) k, same_length o (decoded-order o d) k)
+    found_symbol : word_number (a.coordinates.len + 1) (cut a.coordinates) ≡ symbol_of o.len (exchange k (listed o))
+    found_symbol =
+        coordinates_number (word_near o) near_passes a.coordinates (nearest_coordinates o a e d)
+        ∙ rw (same_list_lem o (decoded_order o d) k, same_length o (decoded_order o d) k)
 
-    pub corrected-found : {s : ℕ} {v : Verdict} → s ≡ word_number (a.coordinates.len + 1) (cut a.coordinates) → v ≡ verdict_at a.place
+    pub corrected_found : {s : ℕ} {v : Verdict} → s ≡ word_number (a.coordinates.len + 1) (cut a.coordinates) → v ≡ verdict_at a.place
         → record { number = 0; value = record { reading = record { symbol = s; verdict = some v }; word = a.word } } ≡ corrected_of o
     unfolding corrected_of reading_at exchanged_order
-    corrected-found p q = rw (p, q, found-symbol, nearest-place o a e d, nearest-word o a e d) (told-done _ _ _ d)
+    corrected_found p q = rw (p, q, found_symbol, nearest_place o a e d, nearest_word o a e d) (told_done _ _ _ d)
 
 -- the codeword found
 pub corrected_word : (o : Order) → (corrected_of o).number ≡ 0 → (corrected_of o).value.word ≡ order_record (exchange (correction o.len (listed o)) (listed o))
@@ -113,13 +113,13 @@ decode_part o = go (number_of (decode_checks o)) _ _
     go (suc k) r w = refl
 
 module _ (o : Order) (d : number_of (order_checks o) ≡ 0) where
-  pub decode-lost : o.len ≤ correction o.len (listed o) → record { number = refusal_number Lost; value = no_reading } ≡ decode_of o
+  pub decode_lost : o.len ≤ correction o.len (listed o) → record { number = refusal_number Lost; value = no_reading } ≡ decode_of o
   unfolding decode_of
-  decode-lost l = told-refused _ _ _ Lost (lost-number o d l)
+  decode_lost l = told_refused _ _ _ Lost (lost_number o d l)
 
-  pub decode-found : (k : ℕ) → correction o.len (listed o) ≡ k → k < o.len → (s : ℕ) → s ≡ symbol_of o.len (exchange k (listed o))
+  pub decode_found : (k : ℕ) → correction o.len (listed o) ≡ k → k < o.len → (s : ℕ) → s ≡ symbol_of o.len (exchange k (listed o))
       → record { number = 0; value = record { symbol = s; verdict = some (verdict_at k) } } ≡ decode_of o
   unfolding decode_of reading_at
-  decode-found k e l s number =
+  decode_found k e l s number =
       let h : correction o.len (listed o) < o.len = omega arith in
-      rw (number, ← e) (told-done _ _ _ (found_number o d h))
+      rw (number, ← e) (told_done _ _ _ (found_number o d h))

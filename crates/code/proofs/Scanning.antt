@@ -52,9 +52,9 @@ take_tabulate (suc m) zero f l = absurd (not-suc-le-zero l)
 take_tabulate (suc m) (suc k) f l = ap (λ (t : List ℕ). f 0 ∷ t) (take_tabulate m k (λ j. f (suc j)) (le_of_suc-le-suc l))
 
 module _ (o : Order) (low : 1 ≤ o.len) (high : o.len ≤ 12) where
-  pub cut-coordinates : cut (coordinates_of o) ≡ coordinates_to (o.len - 1) (listed o)
+  pub cut_coordinates : cut (coordinates_of o) ≡ coordinates_to (o.len - 1) (listed o)
   unfolding coordinates_of coordinates_to
-  cut-coordinates = take_tabulate (o.len - 1) 11 (λ k. coordinate_of (listed o) (suc k)) (omega arith)
+  cut_coordinates = take_tabulate (o.len - 1) 11 (λ k. coordinate_of (listed o) (suc k)) (omega arith)
 
   -- the number of cells
   pub cells_of : (coordinates_of o).len + 1 ≡ o.len

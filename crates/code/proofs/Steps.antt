@@ -10,18 +10,18 @@ use native.Mathlib.Omega.{arith}
 use lib.ListN.{get_or}
 use Rattle.decoder.specs.Decoding.{modulus}
 use Rattle.code.specs.Words.{index_of}
-use Rattle.code.specs.Tails.{sum_below, owed, tails_from, tails, having, before}
+use Rattle.code.specs.Tails.{sum_below_lem, owed, tails_from, tails, having, before}
 use Rattle.code.specs.Steps.{Choosing}
 use Rattle.code.proofs.Lists.{sum_term}
-use Rattle.code.proofs.Numbering.{words_from, owed-lt, below, word-suc, number-suc}
+use Rattle.code.proofs.Numbering.{words_from, owed_lt, below, word_suc, number_suc}
 use Rattle.code.proofs.Residue.{none_yet, once_more}
 
 pub before_zero : (n i r : ℕ) → before n i r 0 ≡ 0
-unfolding before sum_below
+unfolding before sum_below_lem
 before_zero n i r = refl
 
 pub before_more : (n i r v : ℕ) → before n i r (v + 1) ≡ before n i r v + having n i r v
-unfolding before sum_below
+unfolding before sum_below_lem
 before_more n i r v = rw add-one
 
 -- s is what the later coordinates must leave where coordinate i is v
@@ -36,7 +36,7 @@ module _ {n i r : ℕ} (c : Choosing n i r) where
   pub more : {v s : ℕ} (t : ℕ) → Owing n i r v s → t ≡ owed (modulus n) i s 1 → Owing n i r (v + 1) t
   more {v} t o e =
       let next : t ≡ owed (modulus n) i r (v + 1) = e ∙ rw o.right (once_more (modulus n) i r (omega arith) c.residue v) in
-      record { right = next; residue = rw next (owed-lt (modulus n) (omega arith) i r (v + 1)) }
+      record { right = next; residue = rw next (owed_lt (modulus n) (omega arith) i r (v + 1)) }
 
 -- and the count of these is that with coordinate i at v
 pub counted : {n i r v s : ℕ} (k : ℕ) → Owing n i r v s → k ≡ tails n (i + 1) s → k ≡ having n i r v
@@ -45,27 +45,27 @@ counted k o e = rw o.right at e
 -- the same count, by the number of coordinates from i on
 before_below : (n i r v : ℕ) → before n i r v ≡ below (modulus n) (n - suc i) i r v
 unfolding before tails below
-before_below n i r v = ap (λ (j : ℕ). sum_below (λ u. tails_from (modulus n) (n - j) j (owed (modulus n) i r u)) v) (add-one i)
+before_below n i r v = ap (λ (j : ℕ). sum_below_lem (λ u. tails_from (modulus n) (n - j) j (owed (modulus n) i r u)) v) (add-one i)
 
 module _ (n i r : ℕ) (h : i < n) where
-  tails-below : tails n i r ≡ below (modulus n) (n - suc i) i r (suc i)
+  tails_below : tails n i r ≡ below (modulus n) (n - suc i) i r (suc i)
   unfolding below tails tails_from
-  tails-below =
+  tails_below =
       let e : n - i ≡ suc (n - suc i) = omega arith in
       ap (λ (k : ℕ). tails_from (modulus n) k i r) e
 
-  pub before-all : before n i r (i + 1) ≡ tails n i r
-  before-all = rw (tails-below, before_below, add-one)
+  pub before_all : before n i r (i + 1) ≡ tails n i r
+  before_all = rw (tails_below, before_below, add-one)
 
   -- those with coordinate i up to v are among all
-  pub before-next : (v : ℕ) → v ≤ i → before n i r v + having n i r v ≤ tails n i r
+  pub before_next : (v : ℕ) → v ≤ i → before n i r v + having n i r v ≤ tails n i r
   unfolding before
-  before-next v hv = rw before-all at (sum_term (having n i r) (i + 1) v (omega arith))
+  before_next v hv = rw before_all at (sum_term (having n i r) (i + 1) v (omega arith))
 
   -- a number that is past those with coordinate i up to v, and below all, is past no last coordinate
   pub not_last : (v s : ℕ) → v ≤ i → before n i r (v + 1) ≤ s → s < tails n i r → v < i
   not_last v s hv past below =
-      ⊎_elim (λ e. absurd (omega (arith, before-all, ap (λ (u : ℕ). before n i r (u + 1)) e))) (λ l. l) (eq-or-lt_of_le hv)
+      ⊎_elim (λ e. absurd (omega (arith, before_all, ap (λ (u : ℕ). before n i r (u + 1)) e))) (λ l. l) (eq-or-lt_of_le hv)
 
 -- the coordinates from i on of a number
 abbrev pub word_from : ℕ → ℕ → ℕ → ℕ → List ℕ
@@ -76,22 +76,22 @@ abbrev pub number_from : ℕ → ℕ → ℕ → List ℕ → ℕ
 number_from n i r x = index_of x (words_from (modulus n) (n - i) i r)
 
 module _ {n i r : ℕ} (c : Choosing n i r) (v : ℕ) (hv : v ≤ i) where
-  wordsFrom-suc : words_from (modulus n) (n - i) i r ≡ words_from (modulus n) (suc (n - suc i)) i r
-  wordsFrom-suc =
+  wordsFrom_suc : words_from (modulus n) (n - i) i r ≡ words_from (modulus n) (suc (n - suc i)) i r
+  wordsFrom_suc =
       let e : n - i ≡ suc (n - suc i) = omega arith in
       ap (λ (k : ℕ). words_from (modulus n) k i r) e
 
   -- the first coordinate of a number's word, and the number that is left for the later ones
-  pub word-step : (s t : ℕ) → s ≡ before n i r v + t → t < having n i r v → word_from n i r s ≡ v ∷ word_from n (i + 1) (owed (modulus n) i r v) t
+  pub word_step : (s t : ℕ) → s ≡ before n i r v + t → t < having n i r v → word_from n i r s ≡ v ∷ word_from n (i + 1) (owed (modulus n) i r v) t
   unfolding tails
-  word-step s t e ht =
-      rw (e, wordsFrom-suc, before_below, add-one)
-      (word-suc (modulus n) (omega arith) (n - suc i) i r v (omega arith) hv t (rw add-one at ht))
+  word_step s t e ht =
+      rw (e, wordsFrom_suc, before_below, add-one)
+      (word_suc (modulus n) (omega arith) (n - suc i) i r v (omega arith) hv t (rw add-one at ht))
 
   pub number_step :
       (x : List ℕ) → number_from n (i + 1) (owed (modulus n) i r v) x < having n i r v
       → number_from n i r (v ∷ x) ≡ before n i r v + number_from n (i + 1) (owed (modulus n) i r v) x
   unfolding tails
   number_step x h =
-      rw (wordsFrom-suc, before_below, add-one)
-      (number-suc (modulus n) (omega arith) (n - suc i) i r v (omega arith) hv x (rw add-one at h))
+      rw (wordsFrom_suc, before_below, add-one)
+      (number_suc (modulus n) (omega arith) (n - suc i) i r v (omega arith) hv x (rw add-one at h))

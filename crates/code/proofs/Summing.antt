@@ -19,7 +19,7 @@ use Rattle.code.specs.Tails.{tails, owed, before}
 use Rattle.code.specs.Steps.{is_word, Choosing}
 use Rattle.code.proofs.Scanning.{Sized, cut, at, from, from_cons, from_end, length_cut}
 use Rattle.code.proofs.Rule.{tails_fit}
-use Rattle.code.proofs.Numbering.{words_from, owed-lt, tail-word, found, number-zero}
+use Rattle.code.proofs.Numbering.{words_from, owed_lt, tail_word, found, number_zero}
 use Rattle.code.proofs.Laws.{K-entry, word_of_lem, number_below}
 use Rattle.code.proofs.Steps.{number_from, number_step}
 
@@ -76,7 +76,7 @@ module _ (x : Coordinates) (sum r i : ℕ) (s : Summing x sum r i) where
     cons = from_cons x s.sized i s.first h
 
     later : (v ≤ i) × (in_range (n - 1) (i + 1) (from x (i + 1)) ≡ true) × T (leaves (modulus n) (i + 1) r' (from x (i + 1)))
-    later = rw (add-one i) (tail-word (modulus n) (omega arith) (n - 1) i r v (from x (suc i)) s.residue (rw (cons, add-one i) at s.range) (rw (cons, add-one i) at s.sum_leaves))
+    later = rw (add-one i) (tail_word (modulus n) (omega arith) (n - 1) i r v (from x (suc i)) s.residue (rw (cons, add-one i) at s.range) (rw (cons, add-one i) at s.sum_leaves))
 
     -- what each call for coordinate i asks
     pub choosing : Choosing n i r × (v ≤ i)
@@ -87,7 +87,7 @@ module _ (x : Coordinates) (sum r i : ℕ) (s : Summing x sum r i) where
         let len : length (from x (i + 1)) ≡ n - (i + 1) = omega (arith, length-drop (i + 1 - 1) (cut x), length_cut x s.sized) in
         rw cons
         (number_step choosing.0 v later.0 (from x (i + 1))
-        (found_from n (i + 1) r' (from x (i + 1)) (omega arith) len (owed-lt (modulus n) (omega arith) i r v) later.1 later.2))
+        (found_from n (i + 1) r' (from x (i + 1)) (omega arith) len (owed_lt (modulus n) (omega arith) i r v) later.1 later.2))
 
     -- the sum stays a u32: the word's number is below K(n), which is one
     pub sum_fits : sum + before n i r v < 2 ^ 32
@@ -102,7 +102,7 @@ module _ (x : Coordinates) (sum r i : ℕ) (s : Summing x sum r i) where
           word = s.word;
           first = omega arith;
           last = omega arith;
-          residue = rw e (owed-lt (modulus n) (omega arith) i r v);
+          residue = rw e (owed_lt (modulus n) (omega arith) i r v);
           range = later.1;
           sum_leaves = rw e later.2;
           total = rw (e, e') (omega (arith, split, s.total));
@@ -111,4 +111,4 @@ module _ (x : Coordinates) (sum r i : ℕ) (s : Summing x sum r i) where
   pub end : x.len < i → sum ≡ word_number n (cut x)
   end h =
       let none : n - i ≡ 0 = omega arith in
-      rw (from_end x s.sized i h, none, number-zero (modulus n) (omega arith) i r, add-zero) at s.total
+      rw (from_end x s.sized i h, none, number_zero (modulus n) (omega arith) i r, add-zero) at s.total

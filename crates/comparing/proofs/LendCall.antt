@@ -51,9 +51,9 @@ use Rattle.group.proofs.Group.TheLaws as Group''
 use Rattle.push_up.specs.contracts.Push as Push'
 use Rattle.push_up.proofs.Push.TheLaws as Push''
 use Rattle.push_list.specs.declared.WrittenInto.{WrittenInto}
-use Rattle.push_list.proofs.Arrays.{slot_apart, slot-some, are-items}
+use Rattle.push_list.proofs.Arrays.{slot_apart, slot_some, are_items}
 use Rattle.push_list.proofs.Pushes.{R, Pushes, pushes, spelled, tells, makes, all_typed}
-use Rattle.push_list.proofs.Walking.{local, args2, args3, sets, lands-in, free-cell, has, Callee}
+use Rattle.push_list.proofs.Walking.{local, args2, args3, sets, lands_in, free_cell, has, Callee}
 use Rattle.push_list.specs.contracts.WrittenInto as Answer'
 use Rattle.push_list.proofs.WrittenInto.TheLaws as Answer''
 use Rattle.push_list.proofs.LentCall.{Target, lending, lends}
@@ -73,14 +73,14 @@ says_nothing : {M : Type 1} {𝓤 : Ura M} {𝓛 : Logic 𝓤} {K : Type 0} {Γ 
 says_nothing {𝓤 = 𝓤} t {P} = step (λ s. record { prf = via 𝓤 P s.prf (via 𝓤 (sep 𝓤 (emp 𝓤) P) (emp∗ 𝓤 P) (comm∗ 𝓤 (emp 𝓤) P)) })
 
 module _ (T : Target) where
-  abbrev target-slot : Slot 0
-  target-slot = plain (λ _. row_of T.type)
+  abbrev target_slot : Slot 0
+  target_slot = plain (λ _. row_of T.type)
 
   -- ---- contracts
 
   abbrev pub handing : Ended
   handing = record {
-    signature = record { lifetimes = 0; outlives = []; params = group_slot ∷ target-slot ∷ pushes 12 ∷ room_slot ∷ []; result = plain (λ _. Lent'.the_row) };
+    signature = record { lifetimes = 0; outlives = []; params = group_slot ∷ target_slot ∷ pushes 12 ∷ room_slot ∷ []; result = plain (λ _. Lent'.the_row) };
     kept = (yes, (yes, (yes, (yes, tt))));
   }
 
@@ -93,7 +93,7 @@ module _ (T : Target) where
     Into 𝓛 = Callee 𝓛 (lending T) (lends T 𝓤)
 
   abbrev stayed : Stays handing.signature.params handing.kept
-  stayed = (stay_dropped group_slot yes, (stay_dropped target-slot yes, (stay_dropped (pushes 12) yes, (stay_dropped room_slot yes, tt))))
+  stayed = (stay_dropped group_slot yes, (stay_dropped target_slot yes, (stay_dropped (pushes 12) yes, (stay_dropped room_slot yes, tt))))
 
   -- ---- MIR
 
@@ -168,7 +168,7 @@ module _ (T : Target) where
     mach w u = vstruct (of_list (w ∷ u ∷ []))
 
     is_made : (r : WrittenInto) (zs : List Push) (w u : Val) → Is Answer'.the_row r (w ∷ []) → Is (Pushes 12) zs (u ∷ []) → Is Lent'.the_row (made r zs) (mach w u ∷ [])
-    is_made r zs w u is-r is-zs = ((w ∷ [], (u ∷ [], tt)), (refl, (is-r, (are-items Push'.the_type 12 zs (u ∷ []) is-zs, tt))))
+    is_made r zs w u is-r is-zs = ((w ∷ [], (u ∷ [], tt)), (refl, (is-r, (are_items Push'.the_type 12 zs (u ∷ []) is-zs, tt))))
 
     exits : (r : WrittenInto) (zs : List Push) (w u : Val) → Is Lent'.the_row (made r zs) (mach w u ∷ []) → ent 𝓤 (emp 𝓤) (Post (mach w u))
     exits r zs w u is-d =
@@ -242,15 +242,15 @@ module _ (T : Target) where
           use2 𝓛 (‵ (cells (mem R) list l₅ 0)) (join_app 𝓛 (mem R) zs back l₅ 0) $
           use1 𝓛 (‵ (row R full_share list l₅ 0)) (whole_out 𝓛 R list l₅ 0) $
           use1 𝓛 (some (λ (u : Val). given (Is (Pushes 12) list (u ∷ [])) (‵ (fat full_share (ty_array Push''.mir 12) l₅ 0 u))))
-          (slot-some 𝓛 R 12 list l₅ spelled tells (length_front xs zs room l ∙ counted)) $ pick ! (λ u. learn ! (λ is-zs.
+          (slot_some 𝓛 R 12 list l₅ spelled tells (length_front xs zs room l ∙ counted)) $ pick ! (λ u. learn ! (λ is-zs.
           -- [_5; …; true; _9; …; _8; …; _7; …; _6; …; (_5's right to be freed); _4; …; _3; …; _2; …; _1; …; room for _0; …]
-          lands-in ! 9 refl ((LL.lawful Answer'.the_type Answer''.the_laws 𝓛).typed r _ is-r).0 $
+          lands_in ! 9 refl ((LL.lawful Answer'.the_type Answer''.the_laws 𝓛).typed r _ is-r).0 $
           sets ! 3 refl (of_opd ! (local ! 0 refl)) (all_typed 𝓛 12 list u is-zs) $
           sets ! 20 refl (agg ! (args2 ! (local ! 9 refl) (local ! 3 refl)))
           ((LL.lawful Lent'.the_type Lent''.the_laws 𝓛).typed (made r list) _ (is_made r list w u is-r is-zs)).0 $
-          returns ! (look ! 20 refl) $ free-cell ! 20 refl refl $ free-cell ! 18 refl refl $ free-cell ! 16 refl refl $ free-cell ! 14 refl refl $
-          free-cell ! 12 refl refl $ forget ! 0 refl $ move ! (0 ∷ 11 ∷ []) $ free1 ! $ free-cell ! 8 refl refl $ free-cell ! 6 refl refl $ free-cell ! 4 refl refl $
-          free-cell ! 2 refl refl $ free0 ! $ keep ! [] $ by ! (exits r list w u (is_made r list w u is-r is-zs)))))))))))))))))))))
+          returns ! (look ! 20 refl) $ free_cell ! 20 refl refl $ free_cell ! 18 refl refl $ free_cell ! 16 refl refl $ free_cell ! 14 refl refl $
+          free_cell ! 12 refl refl $ forget ! 0 refl $ move ! (0 ∷ 11 ∷ []) $ free1 ! $ free_cell ! 8 refl refl $ free_cell ! 6 refl refl $ free_cell ! 4 refl refl $
+          free_cell ! 2 refl refl $ free0 ! $ keep ! [] $ by ! (exits r list w u (is_made r list w u is-r is-zs)))))))))))))))))))))
 
   module _ {M : Type 1} {𝓤 : Ura M} (𝓛 : Logic 𝓤) (𝓣 : Tables 𝓤 𝓛.H) (#write : Name)
       (known : Triple 𝓤 (𝓣.C #write) (Into 𝓤 𝓛)) where
@@ -266,7 +266,7 @@ module _ (T : Target) where
     pub meets : Meets 𝓛 handing.signature (WpFn 𝓤 H 𝓣.C 𝓣.Λ (handed #write)) (closing 𝓛 handing (hands 𝓤))
     meets =
         let group = Goes-dropped 𝓛 0 group_slot yes (λ κs x f. refl) in
-        let target = Goes-dropped 𝓛 0 target-slot yes (λ κs. T.silent) in
+        let target = Goes-dropped 𝓛 0 target_slot yes (λ κs. T.silent) in
         let list = Goes-dropped 𝓛 0 (pushes 12) yes (λ κs x f. refl) in
         let room = Goes-dropped 𝓛 0 room_slot yes (λ κs x f. refl) in
         walk_Meets 𝓛 handing stayed (group, (target, (list, (room, tt))))

@@ -13,7 +13,7 @@ use Rattle.runs.specs.Text.{all_pulses}
 use Rattle.runs.specs.declared.PieceAnswer.{PieceAnswer}
 use Rattle.runs.specs.Pieces.{beginning, progress_after, lines_from, text_from, goes_on, ends, lines_printed, piece_of, end_printed}
 use Rattle.runs.proofs.Follow.{progress_follows}
-use Rattle.runs.proofs.Pieces.{Stands, beginning_stands, after_stands, stands-ends, stands-goes-on, records_length}
+use Rattle.runs.proofs.Pieces.{Stands, beginning_stands, after_stands, stands_ends, stands_goes_on, records_length}
 
 -- ---- a piece that is taken
 
@@ -22,11 +22,11 @@ ends_within : (t out : List ℕ) {last : List ℕ} {end : ℕ} → end ≡ lengt
 ends_within t out {last} {end} e h = omega (arith, e, ap length h ∙ length-append t (drop end out))
 
 module _ (p : Progress) (bs out : List ℕ) {last : List ℕ} where
-  pub piece-taken : (r : PieceAnswer) → goes_on p bs out ≡ true → (r ≡ piece_of p bs out) × (last ≡ lines_printed p bs out ++ drop r.end out)
+  pub piece_taken : (r : PieceAnswer) → goes_on p bs out ≡ true → (r ≡ piece_of p bs out) × (last ≡ lines_printed p bs out ++ drop r.end out)
       → (r.end ≡ length (lines_from p (records bs)))
       × ((r.progress ≡ progress_after p (records bs)) × ((last ≡ lines_from p (records bs) ++ drop r.end out) × (r.end ≤ length last)))
   unfolding piece_of lines_printed
-  piece-taken r e h =
+  piece_taken r e h =
       let same = rw e at h.0 in
       let text = lines_from p (records bs) in
       let end : r.end ≡ length text = ap (λ (x : PieceAnswer). x.end) same in
@@ -79,18 +79,18 @@ module _ {input text : List ℕ} {p : Progress} {size pieces : ℕ} (sent : Sent
       omega (arith, at, records_length sent.earlier, sent.whole)
 
   -- a full piece is taken, and so is a last one of at most as many bytes
-  pub sent-goes-on : (bs : List ℕ) → length bs ≡ 4096 → goes_on p bs text ≡ true
-  sent-goes-on bs e =
-      stands-goes-on p bs text standing (omega (arith, place, e, sent.few)) (omega (arith, e, sent.space)) (omega (arith, e))
+  pub sent_goes_on : (bs : List ℕ) → length bs ≡ 4096 → goes_on p bs text ≡ true
+  sent_goes_on bs e =
+      stands_goes_on p bs text standing (omega (arith, place, e, sent.few)) (omega (arith, e, sent.space)) (omega (arith, e))
 
-  pub sent-ends : (bs : List ℕ) → length bs ≡ size → ends p bs text ≡ true
-  sent-ends bs e =
-      stands-ends p bs text standing (omega (arith, place, e, sent.read, sent.few)) (omega (arith, e, sent.read, sent.space))
+  pub sent_ends : (bs : List ℕ) → length bs ≡ size → ends p bs text ≡ true
+  sent_ends bs e =
+      stands_ends p bs text standing (omega (arith, place, e, sent.read, sent.few)) (omega (arith, e, sent.read, sent.space))
 
   -- the next piece
-  pub sent-steps : {next later : List ℕ} {q : Progress} {more : ℕ} (bs : List ℕ) → length bs ≡ 4096 → pieces < 16 → q ≡ progress_after p (records bs)
+  pub sent_steps : {next later : List ℕ} {q : Progress} {more : ℕ} (bs : List ℕ) → length bs ≡ 4096 → pieces < 16 → q ≡ progress_after p (records bs)
       → length next ≡ 4096 → length later ≡ 65600 → more ≤ 4096 → Sent next later q more (pieces + 1)
-  sent-steps bs f l e n t m =
+  sent_steps bs f l e n t m =
       let bytes : length sent.earlier % 8 ≡ 0 = omega (arith, sent.whole) in
       record {
         buffer = n;

@@ -35,6 +35,6 @@ module _ {m : ℕ} {xs : List ℕ} (h : Holds m xs) where
   }
 
   -- the ones below the digit of a cell count the listed cells below that cell
-  pub holds-below : (k : ℕ) → ones (m % 2 ^ k) ≡ below (suc k) xs
-  holds-below zero = ones_none m ∙ sym h.cells
-  holds-below (suc k) = omega (arith, ones_next k m, h.digits k, holds-below k, below_suc (suc k) xs)
+  pub holds_below : (k : ℕ) → ones (m % 2 ^ k) ≡ below (suc k) xs
+  holds_below zero = ones_none m ∙ sym h.cells
+  holds_below (suc k) = omega (arith, ones_next k m, h.digits k, holds_below k, below_suc (suc k) xs)

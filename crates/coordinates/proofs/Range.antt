@@ -32,8 +32,8 @@ module _ (x : Coordinates) (w : length x.values ≡ 11) (r : in_range x.len 1 x.
   pub value_low : k < x.len → get_or x.values k 0 ≤ suc k
   value_low h = omega (arith, rw (le-leb (1 + k) x.len (omega arith)) at (range_at x.len 1 k x.values r (omega arith)))
 
-  pub value-past : x.len ≤ k → get_or x.values k 0 ≡ 0
-  value-past h = omega (arith, rw (lt-leb (1 + k) x.len (omega arith)) at (range_at x.len 1 k x.values r (omega arith)))
+  pub value_past : x.len ≤ k → get_or x.values k 0 ≡ 0
+  value_past h = omega (arith, rw (lt-leb (1 + k) x.len (omega arith)) at (range_at x.len 1 k x.values r (omega arith)))
 
 pub all_in_range : (m i : ℕ) (xs : List ℕ) → ((k : ℕ) → k < length xs → get_or xs k 0 ≤ limit m (i + k)) → in_range m i xs ≡ true
 unfolding in_range

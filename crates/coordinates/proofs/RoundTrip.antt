@@ -14,7 +14,7 @@ use lib.Seq.{take_at, drop_at}
 use borrow.Author.Tests.{eq-eqb, ne_eqb, le-leb, lt-leb}
 use Rattle.order.specs.Cells.{count, below, is_order}
 use Rattle.order.proofs.Cells.{IsOrder, order_true, true_order, order_count, order_past, lt_cases, eq_cases, tally-lt, tally-ge, tally-eq, tally-ne, below_suc, below_append, below_le, count_if_append}
-use Rattle.order.proofs.Tabulate.{length-tabulate, get_d_tabulate}
+use Rattle.order.proofs.Tabulate.{length_tabulate, get_d_tabulate}
 use Rattle.coordinates.specs.Coordinates.{after, coordinate_of, coordinates_to, insert_at, order_from, in_range}
 use Rattle.coordinates.proofs.Range.{all_in_range}
 
@@ -56,24 +56,24 @@ below_after_skip c h (x ∷ a) b l =
 
 module _ (n : ℕ) (a b : List ℕ) (o : IsOrder n (a ++ b)) where
   -- it has all that stand behind it after it
-  pub coordinate-top : count (suc n) a ≡ 0 → coordinate_of (a ++ suc n ∷ b) n ≡ length b
+  pub coordinate_top : count (suc n) a ≡ 0 → coordinate_of (a ++ suc n ∷ b) n ≡ length b
   unfolding coordinate_of
-  coordinate-top z =
+  coordinate_top z =
       rw (after_cell (suc n) a b z)
       (omega (arith, o.up_to n (omega arith), below_append (suc n) a b, o.size, length-append a b, below_le (suc n) a, below_le (suc n) b))
 
-  pub coordinate-skip : (i : ℕ) → i < n → coordinate_of (a ++ suc n ∷ b) i ≡ coordinate_of (a ++ b) i
+  pub coordinate_skip : (i : ℕ) → i < n → coordinate_of (a ++ suc n ∷ b) i ≡ coordinate_of (a ++ b) i
   unfolding coordinate_of
-  coordinate-skip i l = below_after_skip (suc i) (suc n) a b (omega arith)
+  coordinate_skip i l = below_after_skip (suc i) (suc n) a b (omega arith)
 
   -- it is not among the others
-  pub top-free : count (suc n) a ≡ 0
-  top-free =
+  pub top_free : count (suc n) a ≡ 0
+  top_free =
       omega (arith, count_if_append (eqb (suc n)) a b, below_suc (suc n) (a ++ b), o.up_to n (omega arith), below_le (suc (suc n)) (a ++ b), o.size)
 
   -- with it the list is an order
-  pub order-with : IsOrder (suc n) (a ++ suc n ∷ b)
-  order-with = record {
+  pub order_with_lem : IsOrder (suc n) (a ++ suc n ∷ b)
+  order_with_lem = record {
     size = omega (arith, length-append a (suc n ∷ b), length-append a b, o.size);
     up_to = λ j l.
         ⊎_elim
@@ -132,8 +132,8 @@ back_step : (n : ℕ) (a b : List ℕ) → IsOrder (suc n) (a ++ suc n ∷ b) �
 unfolding order_from
 back_step n a b o z back =
     let r = order_without n a b o in
-    let rest : order_from (coordinate_of (a ++ suc n ∷ b)) n ≡ a ++ b = order_ext n _ _ (coordinate-skip n a b r) ∙ back r in
-    rw (coordinate-top n a b r z, rest) (insert_between (suc n) a b (n - length b) (omega (arith, r.size, length-append a b)))
+    let rest : order_from (coordinate_of (a ++ suc n ∷ b)) n ≡ a ++ b = order_ext n _ _ (coordinate_skip n a b r) ∙ back r in
+    rw (coordinate_top n a b r z, rest) (insert_between (suc n) a b (n - length b) (omega (arith, r.size, length-append a b)))
 
 -- an order is the order of its coordinates
 pub order_back : (n : ℕ) (xs : List ℕ) → IsOrder n xs → order_from (coordinate_of xs) n ≡ xs
@@ -150,39 +150,39 @@ module _ (x : ℕ → ℕ) where
   unfolding order_from
   order_is zero = record { size = refl; up_to = λ j l. omega arith }
   order_is (suc n) =
-      order-with n (take (n - x n) (order_from x n)) (drop (n - x n) (order_from x n)) (rw (take-append-drop (n - x n) (order_from x n)) (order_is n))
+      order_with_lem n (take (n - x n) (order_from x n)) (drop (n - x n) (order_from x n)) (rw (take-append-drop (n - x n) (order_from x n)) (order_is n))
 
   -- and has these coordinates
-  pub coordinate-back : (n : ℕ) → ((i : ℕ) → i < n → x i ≤ i) → (i : ℕ) → i < n → coordinate_of (order_from x n) i ≡ x i
+  pub coordinate_back : (n : ℕ) → ((i : ℕ) → i < n → x i ≤ i) → (i : ℕ) → i < n → coordinate_of (order_from x n) i ≡ x i
   unfolding order_from
-  coordinate-back zero h i l = absurd (not-suc-le-zero l)
-  coordinate-back (suc n) h i l =
+  coordinate_back zero h i l = absurd (not-suc-le-zero l)
+  coordinate_back (suc n) h i l =
       let a = take (n - x n) (order_from x n) in
       let b = drop (n - x n) (order_from x n) in
       let o : IsOrder n (a ++ b) = rw (take-append-drop (n - x n) (order_from x n)) (order_is n) in
       ⊎_elim
-      (λ e. rw e (coordinate-top n a b o (top-free n a b o) ∙ omega (arith, length-drop (n - x n) (order_from x n), (order_is n).size, h n (omega arith))))
-      (λ g. coordinate-skip n a b o i g ∙ ap (λ (r : List ℕ). coordinate_of r i) (take-append-drop (n - x n) (order_from x n)) ∙ coordinate-back n (λ k m. h k (omega arith)) i g)
+      (λ e. rw e (coordinate_top n a b o (top_free n a b o) ∙ omega (arith, length-drop (n - x n) (order_from x n), (order_is n).size, h n (omega arith))))
+      (λ g. coordinate_skip n a b o i g ∙ ap (λ (r : List ℕ). coordinate_of r i) (take-append-drop (n - x n) (order_from x n)) ∙ coordinate_back n (λ k m. h k (omega arith)) i g)
       (eq-or-lt_of_le (le_of_suc-le-suc l))
 
 -- ---- in the words of specs/
 
 module _ (n : ℕ) (xs : List ℕ) (t : is_order n xs ≡ true) where
-  pub coordinates-low : (i : ℕ) → i ≤ n → coordinate_of xs i ≤ i
-  coordinates-low = coordinate_le n xs (order_true n xs t)
+  pub coordinates_low : (i : ℕ) → i ≤ n → coordinate_of xs i ≤ i
+  coordinates_low = coordinate_le n xs (order_true n xs t)
 
-  pub coordinates-in-range : (m : ℕ) → in_range (n - 1) 1 (coordinates_to m xs) ≡ true
+  pub coordinates_in_range : (m : ℕ) → in_range (n - 1) 1 (coordinates_to m xs) ≡ true
   unfolding coordinates_to
-  coordinates-in-range m =
+  coordinates_in_range m =
       all_in_range (n - 1) 1 (coordinates_to m xs)
-      (λ k l. rw (get_d_tabulate m (λ k. coordinate_of xs (suc k)) k 0 (omega (arith, length-tabulate m (λ k. coordinate_of xs (suc k)))))
+      (λ k l. rw (get_d_tabulate m (λ k. coordinate_of xs (suc k)) k 0 (omega (arith, length_tabulate m (λ k. coordinate_of xs (suc k)))))
       (⊎_elim
-      (λ t. rw (le-leb (1 + k) (n - 1) (omega arith)) (omega (arith, coordinates-low (suc k) (omega arith))))
+      (λ t. rw (le-leb (1 + k) (n - 1) (omega arith)) (omega (arith, coordinates_low (suc k) (omega arith))))
       (λ g. rw (lt-leb (1 + k) (n - 1) (omega arith)) (omega (arith, coordinate_past n xs (order_true n xs t) (suc k) (omega arith))))
       (lt_cases k (n - 1))))
 
-  pub order-of-coordinates : order_from (coordinate_of xs) n ≡ xs
-  order-of-coordinates = order_back n xs (order_true n xs t)
+  pub order_of_coordinates_lem : order_from (coordinate_of xs) n ≡ xs
+  order_of_coordinates_lem = order_back n xs (order_true n xs t)
 
 pub order_of_any : (x : ℕ → ℕ) (n : ℕ) → is_order n (order_from x n) ≡ true
 order_of_any x n = true_order n (order_from x n) (order_is x n)

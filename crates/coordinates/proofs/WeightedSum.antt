@@ -5,7 +5,7 @@ use native.Mathlib.Nat.{mul-add}
 use native.Mathlib.Omega.{arith}
 use mathlib.Core.Path.{◌≡◌, refl, ap}
 use Rattle.order.specs.Cells.{tabulate}
-use Rattle.order.proofs.Tabulate.{tabulate-ext}
+use Rattle.order.proofs.Tabulate.{tabulate_ext}
 use Rattle.coordinates.specs.Coordinates.{weight}
 
 -- v more at index j, and the same elsewhere: v times its number is added
@@ -15,7 +15,7 @@ unfolding weight
 weight_more zero i j v f h l more same = absurd (omega arith)
 weight_more (suc m) i zero v f h l more same =
     let rest : weight (suc i) (tabulate m (λ k. h (suc k))) ≡ weight (suc i) (tabulate m (λ k. f (suc k))) =
-    ap (weight (suc i)) (tabulate-ext m _ _ (λ k g. same (suc k) (omega arith))) in
+    ap (weight (suc i)) (tabulate_ext m _ _ (λ k g. same (suc k) (omega arith))) in
     omega (arith, ap (λ (x : ℕ). i * x) more, mul-add i (f 0) v)
 weight_more (suc m) i (suc j) v f h l more same =
     let next : suc i + j ≡ i + suc j = omega arith in

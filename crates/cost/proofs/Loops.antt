@@ -15,7 +15,7 @@ use Rattle.ranks.specs.declared.Ranks.{Ranks}
 use Rattle.order.specs.Cells.{tabulate}
 use Rattle.ranks.specs.Ranks.{rank_numbers}
 use Rattle.order.proofs.Cells.{lt_cases}
-use Rattle.order.proofs.Tabulate.{tabulate-ext, tabulate-set}
+use Rattle.order.proofs.Tabulate.{tabulate_ext, tabulate_set}
 use Rattle.cost.specs.Steps.{Low, displacements_by_rank, LargestGrowth}
 
 -- ---- the displacements
@@ -32,30 +32,30 @@ module _ (from to : Ranks) where
     pub left : i ≤ 12
     pub sofar : found ≡ tabulate 12 (change_before i)
 
-  pub changed-none : Changed (replicate 12 (pos 0)) 0
+  pub changed_none : Changed (replicate 12 (pos 0)) 0
   unfolding change_before
-  changed-none = record { left = omega arith; sofar = refl }
+  changed_none = record { left = omega arith; sofar = refl }
 
-  change-here : (i : ℕ) → change_before (suc i) i ≡ change i
+  change_here : (i : ℕ) → change_before (suc i) i ≡ change i
   unfolding change_before
-  change-here i = rw (lt-ltb i (suc i) (omega arith))
+  change_here i = rw (lt-ltb i (suc i) (omega arith))
 
-  change-other : (i j : ℕ) → (j ≡ i → ⊥) → change_before i j ≡ change_before (suc i) j
+  change_other : (i j : ℕ) → (j ≡ i → ⊥) → change_before i j ≡ change_before (suc i) j
   unfolding change_before
-  change-other i j h =
+  change_other i j h =
       ⊎_elim (λ t. rw (t.1, lt-ltb j (suc i) (omega arith))) (λ t. rw (t.1, le-ltb j (suc i) (omega arith))) (lt_cases j i)
 
-  pub changed-more : {found : List ℤ} {i : ℕ} → Changed found i → i < 12
+  pub changed_more : {found : List ℤ} {i : ℕ} → Changed found i → i < 12
       → {d : ℤ} → d ≡ sub_ℕ (get_or (rank_numbers to) i 0) (get_or (rank_numbers from) i 0) → Changed (set found i d) (i + 1)
-  changed-more {found} {i} s l e = record {
+  changed_more {found} {i} s l e = record {
     left = omega arith;
-    sofar = rw (s.sofar, add-one i, e ∙ sym (change-here i)) (tabulate-set 12 (change_before i) (change_before (suc i)) i (change-other i));
+    sofar = rw (s.sofar, add-one i, e ∙ sym (change_here i)) (tabulate_set 12 (change_before i) (change_before (suc i)) i (change_other i));
   }
 
-  pub changed-all : {found : List ℤ} {i : ℕ} → Changed found i → 12 ≤ i → found ≡ displacements_by_rank from to
+  pub changed_all : {found : List ℤ} {i : ℕ} → Changed found i → 12 ≤ i → found ≡ displacements_by_rank from to
   unfolding displacements_by_rank change_before
-  changed-all {found} {i} s l =
-      s.sofar ∙ tabulate-ext 12 (change_before i) change (λ k h. rw (lt-ltb k i (omega arith)))
+  changed_all {found} {i} s l =
+      s.sofar ∙ tabulate_ext 12 (change_before i) change (λ k h. rw (lt-ltb k i (omega arith)))
 
 -- ---- the largest rise
 
@@ -74,8 +74,8 @@ module _ {from to : Ranks} {most i : ℕ} (s : Grown from to most i) (l : i < fr
   at_here most' h k g t = let e : k ≡ i = omega arith in rw e (omega arith)
 
   -- what was found still stands where the cell at i does not rise by more
-  pub grown-kept : after ≤ most + before → Grown from to most (i + 1)
-  grown-kept h = record {
+  pub grown_kept : after ≤ most + before → Grown from to most (i + 1)
+  grown_kept h = record {
     left = omega arith;
     small = s.small;
     largest = record {

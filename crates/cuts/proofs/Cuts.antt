@@ -55,20 +55,20 @@ put_mono : (ls : List ℕ) (c v w : ℕ) → c - 1 < length ls → level ls c �
 put_mono ls c v w i l h = put_below c v (put_above c w (at_most_refl ls) l) (rw (level_put ls c w i) h)
 
 module _ (v : ℕ) where
-  half-above : {ps : List Push} {ls ms : List ℕ} → Runs ps ls ms → Between ps v → AtMost ls (played (half_push ps v) ls)
+  half_above : {ps : List Push} {ls ms : List ℕ} → Runs ps ls ms → Between ps v → AtMost ls (played (half_push ps v) ls)
   unfolding played
-  half-above rest b = at_most_refl _
-  half-above {ls = ls} (next {p = p} i s l r) b = put_above p.cell.0 v (at_most_refl ls) (omega (arith, s, b.0))
+  half_above rest b = at_most_refl _
+  half_above {ls = ls} (next {p = p} i s l r) b = put_above p.cell.0 v (at_most_refl ls) (omega (arith, s, b.0))
 
-  half-below : {ps : List Push} {ls ms : List ℕ} → Runs ps ls ms → Between ps v → AtMost (played (half_push ps v) ls) ms
+  half_below : {ps : List Push} {ls ms : List ℕ} → Runs ps ls ms → Between ps v → AtMost (played (half_push ps v) ls) ms
   unfolding played
-  half-below rest b = at_most_refl _
-  half-below {ls = ls} (next {p = p} i s l r) b = at_most_trans (put_mono ls p.cell.0 v p.reach i (omega (arith, s, l)) (omega (arith, b.1))) (runs_above r)
+  half_below rest b = at_most_refl _
+  half_below {ls = ls} (next {p = p} i s l r) b = at_most_trans (put_mono ls p.cell.0 v p.reach i (omega (arith, s, l)) (omega (arith, b.1))) (runs_above r)
 
-  half-grown : {ps : List Push} {ls ms : List ℕ} → Runs ps ls ms → Between ps v → pulses_in (half_push ps v) + sum ls ≡ sum (played (half_push ps v) ls)
+  half_grown : {ps : List Push} {ls ms : List ℕ} → Runs ps ls ms → Between ps v → pulses_in (half_push ps v) + sum ls ≡ sum (played (half_push ps v) ls)
   unfolding played pulses_in
-  half-grown rest b = omega arith
-  half-grown {ls = ls} (next {p = p} i s l r) b = omega (arith, sum_put ls p.cell.0 v i, s, b.0)
+  half_grown rest b = omega arith
+  half_grown {ls = ls} (next {p = p} i s l r) b = omega (arith, sum_put ls p.cell.0 v i, s, b.0)
 
 -- ---- a cut of any program
 
@@ -79,27 +79,27 @@ module _ {ps : List Push} {ls ms : List ℕ} (r : Runs ps ls ms) (cut : Cut) (c 
   half : List Push
   half = half_push (drop cut.done ps) cut.level
 
-  levels-split : levels_at ps cut ls ≡ played half (played front ls)
+  levels_split : levels_at ps cut ls ≡ played half (played front ls)
   unfolding levels_at front half
-  levels-split = played_append front half ls
+  levels_split = played_append front half ls
 
-  pulses-split : pulses_at ps cut ≡ pulses_in front + pulses_in half
+  pulses_split : pulses_at ps cut ≡ pulses_in front + pulses_in half
   unfolding pulses_at front half
-  pulses-split = pulses_append front half
+  pulses_split = pulses_append front half
 
-  pub cut-above : AtMost ls (levels_at ps cut ls)
+  pub cut_above : AtMost ls (levels_at ps cut ls)
   unfolding front half
-  cut-above = rw levels-split (at_most_trans (runs_above (runs_front cut.done r)) (half-above cut.level (runs_back cut.done r) c.1))
+  cut_above = rw levels_split (at_most_trans (runs_above (runs_front cut.done r)) (half_above cut.level (runs_back cut.done r) c.1))
 
   pub cut_below : AtMost (levels_at ps cut ls) ms
   unfolding front half
-  cut_below = rw levels-split (half-below cut.level (runs_back cut.done r) c.1)
+  cut_below = rw levels_split (half_below cut.level (runs_back cut.done r) c.1)
 
-  pub cut-grown : pulses_at ps cut + sum ls ≡ sum (levels_at ps cut ls)
+  pub cut_grown : pulses_at ps cut + sum ls ≡ sum (levels_at ps cut ls)
   unfolding front half
-  cut-grown =
+  cut_grown =
       let whole = runs_pulses (runs_front cut.done r) in
-      rw levels-split (omega (arith, pulses-split, whole, half-grown cut.level (runs_back cut.done r) c.1))
+      rw levels_split (omega (arith, pulses_split, whole, half_grown cut.level (runs_back cut.done r) c.1))
 
 -- ---- the used pulses at a cut
 
@@ -112,7 +112,7 @@ sum_tallied (u ∷ us) e (more h p) = omega (arith, h, sum_tallied us (omega (ar
 
 pub cut_used : (g : Group) {ps : List Push} {ms : List ℕ} → Runs ps g.levels ms → (cut : Cut) → IsCut ps cut → length g.used ≡ length g.levels
     → sum (used_at g ps cut) ≡ sum g.used + pulses_at ps cut
-cut_used g r cut c e = omega (arith, sum_tallied g.used e (cut-above r cut c), cut-grown r cut c)
+cut_used g r cut c e = omega (arith, sum_tallied g.used e (cut_above r cut c), cut_grown r cut c)
 
 -- ---- the ends are cuts: nothing pushed yet, and all pushed
 
@@ -145,12 +145,12 @@ module _ (gap : ℕ) (rs : List (List ℕ)) (ls : List ℕ) (a : Apart (length l
   there : List ℕ
   there = levels_at (pushes gap rs ls) cut ls
 
-  pub cut-raised : raise gap rs (levels_at (pushes gap rs ls) cut ls) ≡ raise gap rs ls
-  cut-raised = let r = program_runs gap rs ls a in raise_between gap rs a (cut-above r cut c) (cut_below r cut c)
+  pub cut_raised : raise gap rs (levels_at (pushes gap rs ls) cut ls) ≡ raise gap rs ls
+  cut_raised = let r = program_runs gap rs ls a in raise_between gap rs a (cut_above r cut c) (cut_below r cut c)
 
-  pub cut-pulses : pulses_at (pushes gap rs ls) cut + pulses_in (pushes gap rs (levels_at (pushes gap rs ls) cut ls)) ≡ pulses_in (pushes gap rs ls)
+  pub cut_pulses : pulses_at (pushes gap rs ls) cut + pulses_in (pushes gap rs (levels_at (pushes gap rs ls) cut ls)) ≡ pulses_in (pushes gap rs ls)
   unfolding there
-  cut-pulses =
+  cut_pulses =
       let r = program_runs gap rs ls a in
-      let again = program_runs gap rs there (rw (at_most_length (cut-above r cut c)) at a) in
-      omega (arith, cut-grown r cut c, runs_pulses r, runs_pulses again, ap sum cut-raised)
+      let again = program_runs gap rs there (rw (at_most_length (cut_above r cut c)) at a) in
+      omega (arith, cut_grown r cut c, runs_pulses r, runs_pulses again, ap sum cut_raised)

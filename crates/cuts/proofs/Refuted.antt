@@ -28,13 +28,13 @@ use Rattle.rivals.specs.Rivals.{Machine}
 use Rattle.rivals.specs.Starred.{order, capped, group, taken}
 use Rattle.rivals.proofs.Refuted.{altered, to_the_top, hasty}
 use Rattle.cuts.specs.Cuts.{Cut, IsCut, levels_at, pulses_at, program_of, taken_at, AreRetries, last_answer, pulses_before, Repaired, RepairsCuts}
-use Rattle.cuts.proofs.Again.{names_target, same-call}
+use Rattle.cuts.proofs.Again.{names_target, same_call}
 
 -- one cut of a write is enough, and the same write again, which the plain machine accepts
 fails : (run : Machine) (g : Group) (c : Call) (cut : Cut) → IsGroup g → names_target c.kind ≡ true → writes c.kind ≡ true → (apply_of g c).number ≡ 0
     → (run g c).number ≡ 0 → IsCut (program_of run g c) cut → ¬ (Repaired run g c (record { cut = cut; again = c } ∷ [])) → ¬ (RepairsCuts run)
 unfolding AreRetries
-fails run g c cut h s w plain e k fault meets = fault (meets g h c w e _ (k, same-call g c w plain s, tt))
+fails run g c cut h s w plain e k fault meets = fault (meets g h c w e _ (k, same_call g c w plain s, tt))
 
 -- the pushes of the cells of an order from some levels to others, from low to high
 program_to : List ℕ → List ℕ → List ℕ → List Push

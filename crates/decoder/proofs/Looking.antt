@@ -17,7 +17,7 @@ use Rattle.decoder.specs.Decoding.{modulus, is_codeword, correction}
 use Rattle.decoder.specs.Steps.{syndrome_of, Misread, corrects_by}
 use Rattle.decoder.proofs.First.{first_is}
 use Rattle.decoder.proofs.ZeroSyndrome.{code_syndrome}
-use Rattle.decoder.proofs.Neighbours.{Neighbours, exchange-tested}
+use Rattle.decoder.proofs.Neighbours.{Neighbours, exchange_tested}
 
 pub record Looking (o : Order) (s k : ℕ) : Type 0 where
   pub misread : Misread o s
@@ -42,14 +42,14 @@ looking_none o s m w = record {
 module _ {o : Order} {s k a b : ℕ} (t : Looking o s k) (p : Neighbours o k a b) where
   -- what the test of the syndrome says
   tested : corrects_by o.len s a b ≡ is_codeword o.len (exchange k (listed o))
-  tested = rw t.misread.syndrome (sym (exchange-tested p))
+  tested = rw t.misread.syndrome (sym (exchange_tested p))
 
-  pub looking-found : corrects_by o.len s a b ≡ true → k ≡ correction o.len (listed o)
+  pub looking_found : corrects_by o.len s a b ≡ true → k ≡ correction o.len (listed o)
   unfolding correction
-  looking-found e = sym (first_is (record { within = t.last; before = t.before; passes = λ h. sym tested ∙ e }))
+  looking_found e = sym (first_is (record { within = t.last; before = t.before; passes = λ h. sym tested ∙ e }))
 
-  pub looking-more : corrects_by o.len s a b ≡ false → Looking o s (k + 1)
-  looking-more e = record {
+  pub looking_more : corrects_by o.len s a b ≡ false → Looking o s (k + 1)
+  looking_more e = record {
     misread = t.misread;
     whole = t.whole;
     first = omega arith;
@@ -59,10 +59,10 @@ module _ {o : Order} {s k a b : ℕ} (t : Looking o s k) (p : Neighbours o k a b
 
 module _ {o : Order} {s k : ℕ} (t : Looking o s k) where
   -- the syndrome is below the divisor
-  pub looking-low : s < modulus o.len
+  pub looking_low : s < modulus o.len
   unfolding syndrome_of
-  looking-low = rw t.misread.syndrome (mod-lt (weight 1 (coordinates_to (o.len - 1) (listed o))) (omega (arith, t.first, t.last)))
+  looking_low = rw t.misread.syndrome (mod-lt (weight 1 (coordinates_to (o.len - 1) (listed o))) (omega (arith, t.first, t.last)))
 
-  pub looking-all : o.len ≤ k → o.len ≡ correction o.len (listed o)
+  pub looking_all : o.len ≤ k → o.len ≡ correction o.len (listed o)
   unfolding correction
-  looking-all h = sym (first_is (record { within = omega arith; before = λ j l. t.before j (omega arith); passes = λ l. absurd (omega arith) }))
+  looking_all h = sym (first_is (record { within = omega arith; before = λ j l. t.before j (omega arith); passes = λ l. absurd (omega arith) }))

@@ -15,8 +15,8 @@ use Rattle.order.specs.declared.Refusal.{Refusal}
 use Rattle.order.specs.declared.Refusal.TheVariants.{Lost}
 use Rattle.order.specs.Refusals.{refusal_number, outcome_number, number_of, Told, answer}
 use Rattle.order.specs.Order.{listed, order_checks, no_order}
-use Rattle.order.proofs.Refusals.{later-decide, refused-first, all_held, check-holds, check-fails, check_held, all_hold, told-done, told-refused}
-use Rattle.order.proofs.Records.{passed, passed-listed, record-back}
+use Rattle.order.proofs.Refusals.{later_decide, refused_first, all_held, check_holds, check_fails, check_held, all_hold, told_done, told_refused}
+use Rattle.order.proofs.Records.{passed, passed_listed, record_back}
 use Rattle.coordinates.specs.declared.Coordinates.{Coordinates}
 use Rattle.coordinates.specs.Conversion.{coordinates_of}
 use Rattle.decoder.specs.declared.NearestAnswer.{NearestAnswer}
@@ -24,8 +24,8 @@ use Rattle.decoder.specs.Decoding.{is_codeword, correction}
 use Rattle.decoder.specs.Nearest.{decode_checks, exchanged_order, Found, nothing_found, found_at, told_nearest, nearest_of}
 use Rattle.decoder.specs.Steps.{syndrome_of, Misread, Exchangeable}
 use Rattle.decoder.proofs.ZeroSyndrome.{code_syndrome}
-use Rattle.decoder.proofs.Decoding.{corrected, reads-clean}
-use Rattle.decoder.proofs.Stores.{same_length, same-list}
+use Rattle.decoder.proofs.Decoding.{corrected, reads_clean}
+use Rattle.decoder.proofs.Stores.{same_length, same_list_lem}
 
 -- ---- the checks, and lost
 
@@ -39,43 +39,43 @@ module _ (o : Order) where
   abbrev lost : List (Bool × Refusal)
   lost = (ltb (correction n u) n, Lost) ∷ []
 
-  pub nearest-refused : (r : Refusal) → number_of (order_checks o) ≡ refusal_number r → record { number = refusal_number r; value = nothing_found } ≡ nearest_of o
+  pub nearest_refused : (r : Refusal) → number_of (order_checks o) ≡ refusal_number r → record { number = refusal_number r; value = nothing_found } ≡ nearest_of o
   unfolding nearest_of
-  nearest-refused r e = told-refused _ _ _ r (refused-first lost (order_checks o) r e)
+  nearest_refused r e = told_refused _ _ _ r (refused_first lost (order_checks o) r e)
 
   module _ (d : number_of (order_checks o) ≡ 0) where
-    pub lost-number : n ≤ correction n u → number_of (decode_checks o) ≡ refusal_number Lost
-    lost-number l = later-decide lost (order_checks o) d ∙ check-fails _ _ (le-ltb _ _ l)
+    pub lost_number : n ≤ correction n u → number_of (decode_checks o) ≡ refusal_number Lost
+    lost_number l = later_decide lost (order_checks o) d ∙ check_fails _ _ (le-ltb _ _ l)
 
     pub found_number : correction n u < n → number_of (decode_checks o) ≡ 0
-    found_number l = later-decide lost (order_checks o) d ∙ check-holds _ _ (lt-ltb _ _ l) ∙ all_hold
+    found_number l = later_decide lost (order_checks o) d ∙ check_holds _ _ (lt-ltb _ _ l) ∙ all_hold
 
-    pub nearest-lost : n ≤ correction n u → record { number = refusal_number Lost; value = nothing_found } ≡ nearest_of o
+    pub nearest_lost : n ≤ correction n u → record { number = refusal_number Lost; value = nothing_found } ≡ nearest_of o
     unfolding nearest_of
-    nearest-lost l = told-refused _ _ _ Lost (lost-number l)
+    nearest_lost l = told_refused _ _ _ Lost (lost_number l)
 
-    nearest-found : (k : ℕ) → correction n u ≡ k → k < n → record { number = 0; value = found_at o k } ≡ nearest_of o
+    nearest_found : (k : ℕ) → correction n u ≡ k → k < n → record { number = 0; value = found_at o k } ≡ nearest_of o
     unfolding nearest_of
-    nearest-found k e l = let h : correction n u < n = omega arith in rw (← e) (told-done _ _ _ (found_number h))
+    nearest_found k e l = let h : correction n u < n = omega arith in rw (← e) (told_done _ _ _ (found_number h))
 
-    pub nearest-clean : length o.cells ≡ 12 → correction n u ≡ 0 → {k : ℕ} → k ≡ 0 → {x : Coordinates} → x ≡ coordinates_of o
+    pub nearest_clean : length o.cells ≡ 12 → correction n u ≡ 0 → {k : ℕ} → k ≡ 0 → {x : Coordinates} → x ≡ coordinates_of o
         → record { number = 0; value = record { word = o; place = k; coordinates = x } } ≡ nearest_of o
     unfolding found_at exchanged_order
-    nearest-clean w e none same = rw (none, same) (rw (record-back o d w) at (nearest-found 0 e (omega (arith, (passed o d).0))))
+    nearest_clean w e none same = rw (none, same) (rw (record_back o d w) at (nearest_found 0 e (omega (arith, (passed o d).0))))
 
-    pub nearest-put-right : (k : ℕ) → correction n u ≡ k → k < n → (w : Order) → w ≡ exchanged_order o k → (x : Coordinates) → x ≡ coordinates_of (exchanged_order o k)
+    pub nearest_put_right : (k : ℕ) → correction n u ≡ k → k < n → (w : Order) → w ≡ exchanged_order o k → (x : Coordinates) → x ≡ coordinates_of (exchanged_order o k)
         → record { number = 0; value = record { word = w; place = k; coordinates = x } } ≡ nearest_of o
     unfolding found_at
-    nearest-put-right k e l w found x same = rw (found, same) (nearest-found k e l)
+    nearest_put_right k e l w found x same = rw (found, same) (nearest_found k e l)
 
 -- ---- the syndrome
 
 module _ (o : Order) (d : number_of (order_checks o) ≡ 0) where
   -- where it is 0 the order reads as itself
-  pub read-clean : syndrome_of o.len (listed o) ≡ 0 → correction o.len (listed o) ≡ 0
-  read-clean z =
+  pub read_clean : syndrome_of o.len (listed o) ≡ 0 → correction o.len (listed o) ≡ 0
+  read_clean z =
       let c : is_codeword o.len (listed o) ≡ true = code_syndrome o.len (listed o) ∙ eq-eqb (syndrome_of o.len (listed o)) 0 z in
-      (reads-clean o.len (listed o) (passed-listed o d) (omega (arith, (passed o d).0))).1 c
+      (reads_clean o.len (listed o) (passed_listed o d) (omega (arith, (passed o d).0))).1 c
 
 -- where it is not, and the order is not lost, it reads as another
 pub read_place : {o : Order} {s k : ℕ} → Misread o s → k ≡ correction o.len (listed o) → k < o.len → Exchangeable o k
@@ -84,7 +84,7 @@ read_place {o} {s} {k} m e l =
   where
     wrong : correction o.len (listed o) ≡ 0 → ⊥
     wrong z =
-        let c = (reads-clean o.len (listed o) (passed-listed o m.passed) (omega (arith, (passed o m.passed).0))).0 z in
+        let c = (reads_clean o.len (listed o) (passed_listed o m.passed) (omega (arith, (passed o m.passed).0))).0 z in
         omega (arith, m.syndrome, m.wrong, eqb-true (syndrome_of o.len (listed o)) 0 (sym (code_syndrome o.len (listed o)) ∙ c))
 
 -- ---- an order that is decoded
@@ -94,42 +94,42 @@ abbrev pub word_near : Order → Order
 word_near o = exchanged_order o (correction o.len (listed o))
 
 module _ (o : Order) (d : number_of (decode_checks o) ≡ 0) where
-  pub decoded-order : number_of (order_checks o) ≡ 0
-  decoded-order = (all_held _ (order_checks o) d).0
+  pub decoded_order : number_of (order_checks o) ≡ 0
+  decoded_order = (all_held _ (order_checks o) d).0
 
   place_found : correction o.len (listed o) < o.len
   place_found = ltb-true _ _ (check_held _ Lost [] (all_held _ (order_checks o) d).1).0
 
-  pub near-codeword : is_codeword (word_near o).len (listed (word_near o)) ≡ true
-  near-codeword =
+  pub near_codeword : is_codeword (word_near o).len (listed (word_near o)) ≡ true
+  near_codeword =
       let k = correction o.len (listed o) in
-      rw (same-list o decoded-order k, same_length o decoded-order k) (corrected o.len (listed o) (passed-listed o decoded-order) place_found)
+      rw (same_list_lem o decoded_order k, same_length o decoded_order k) (corrected o.len (listed o) (passed_listed o decoded_order) place_found)
 
 -- ---- the answer, taken apart
 
 module _ (o : Order) (a : NearestAnswer) (e : told_nearest a ≡ nearest_of o) where
-  pub nearest-number : outcome_number a.outcome ≡ number_of (decode_checks o)
+  pub nearest_number : outcome_number a.outcome ≡ number_of (decode_checks o)
   unfolding nearest_of answer
-  nearest-number = ap (λ (t : Told Found). t.number) e
+  nearest_number = ap (λ (t : Told Found). t.number) e
 
   -- zeros beside a refusal
-  pub nearest-zeros : (r : Refusal) → number_of (decode_checks o) ≡ refusal_number r → a.word ≡ no_order
+  pub nearest_zeros : (r : Refusal) → number_of (decode_checks o) ≡ refusal_number r → a.word ≡ no_order
   unfolding nearest_of
-  nearest-zeros r d = ap (λ (t : Told Found). t.value.word) (e ∙ sym (told-refused _ _ _ r d))
+  nearest_zeros r d = ap (λ (t : Told Found). t.value.word) (e ∙ sym (told_refused _ _ _ r d))
 
   module _ (d : number_of (decode_checks o) ≡ 0) where
     found : ◌≡◌ {A = Found} (record { word = a.word; place = a.place; coordinates = a.coordinates }) (found_at o (correction o.len (listed o)))
     unfolding nearest_of
-    found = ap (λ (t : Told Found). t.value) (e ∙ sym (told-done _ _ _ d))
+    found = ap (λ (t : Told Found). t.value) (e ∙ sym (told_done _ _ _ d))
 
-    pub nearest-word : a.word ≡ word_near o
+    pub nearest_word : a.word ≡ word_near o
     unfolding found_at
-    nearest-word = ap (λ (f : Found). f.word) found
+    nearest_word = ap (λ (f : Found). f.word) found
 
-    pub nearest-place : a.place ≡ correction o.len (listed o)
+    pub nearest_place : a.place ≡ correction o.len (listed o)
     unfolding found_at
-    nearest-place = ap (λ (f : Found). f.place) found
+    nearest_place = ap (λ (f : Found). f.place) found
 
-    pub nearest-coordinates : a.coordinates ≡ coordinates_of (word_near o)
+    pub nearest_coordinates : a.coordinates ≡ coordinates_of (word_near o)
     unfolding found_at
-    nearest-coordinates = ap (λ (f : Found). f.coordinates) found
+    nearest_coordinates = ap (λ (f : Found). f.coordinates) found

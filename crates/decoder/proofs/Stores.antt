@@ -12,14 +12,14 @@ use Rattle.order.specs.declared.Order.{Order}
 use Rattle.order.specs.Cells.{is_order, tabulate}
 use Rattle.order.specs.Refusals.{number_of}
 use Rattle.order.specs.Order.{listed, order_checks, order_record}
-use Rattle.order.proofs.Tabulate.{get_d_tabulate, tabulate-set}
+use Rattle.order.proofs.Tabulate.{get_d_tabulate, tabulate_set}
 use Rattle.order.proofs.Numbers.{cell}
-use Rattle.order.proofs.Records.{passed, passed-listed, passed-order, record-back}
+use Rattle.order.proofs.Records.{passed, passed_listed, passed_order, record_back}
 use Rattle.distance.specs.Distance.{exchange}
 use Rattle.decoder.specs.Nearest.{exchanged_order}
 use Rattle.decoder.specs.Steps.{Exchangeable}
-use Rattle.order.proofs.Records.{recorded-length, recorded-list, recorded-passes}
-use Rattle.decoder.proofs.Decoding.{exchange-order}
+use Rattle.order.proofs.Records.{recorded_length, recorded_list, recorded_passes}
+use Rattle.decoder.proofs.Decoding.{exchange_order}
 
 exchange_set : (j : ℕ) (u : List ℕ) → suc j < length u → exchange (suc j) u ≡ set (set u j (get_or u (suc j) 0)) (suc j) (get_or u j 0)
 exchange_set j [] h = absurd (omega arith)
@@ -35,7 +35,7 @@ place_set : (xs : List ℕ) (k v : ℕ) → k < length xs → set (places xs) k 
 unfolding places
 place_set xs k v h =
     ap (λ (w : ℕ). set (places xs) k (cell w)) (sym (get_or-set_same xs k v 0 h))
-    ∙ tabulate-set 12 (λ i. cell (get_or xs i 0)) (λ i. cell (get_or (set xs k v) i 0)) k (λ j q. ap cell (sym (get_or-set_other xs k j v 0 q)))
+    ∙ tabulate_set 12 (λ i. cell (get_or xs i 0)) (λ i. cell (get_or (set xs k v) i 0)) k (λ j q. ap cell (sym (get_or-set_other xs k j v 0 q)))
 
 swapped : (cs : List Cell) (xs : List ℕ) → cs ≡ places xs → (j : ℕ) → suc j < length xs → length xs ≤ 12
     → set (set cs j (get_or cs (suc j) (cell 0))) (suc j) (get_or cs j (cell 0)) ≡ places (exchange (suc j) xs)
@@ -57,26 +57,26 @@ pub stored_exchange : (o : Order) (k : ℕ) → Exchangeable o k → length o.ce
 unfolding exchanged_order order_record places
 stored_exchange o zero e w = absurd (omega (arith, e.first))
 stored_exchange o (suc j) e w =
-    let back : o.cells ≡ places (listed o) = ap (λ (r : Order). r.cells) (sym (record-back o e.passed w)) in
-    let h : suc j < length (listed o) = omega (arith, (passed-order o e.passed).size, e.last) in
+    let back : o.cells ≡ places (listed o) = ap (λ (r : Order). r.cells) (sym (record_back o e.passed w)) in
+    let h : suc j < length (listed o) = omega (arith, (passed_order o e.passed).size, e.last) in
     let d : suc j - 1 ≡ j = omega arith in
-    let swap : (stored o (suc j)).cells ≡ places (exchange (suc j) (listed o)) = rw d (swapped o.cells (listed o) back j h (omega (arith, (passed-order o e.passed).size, (passed o e.passed).1))) in
-    λ i. record { len = sym (recorded-length o.len _ (exchange-order o.len (listed o) (passed-listed o e.passed) (suc j))) i; cells = swap i }
+    let swap : (stored o (suc j)).cells ≡ places (exchange (suc j) (listed o)) = rw d (swapped o.cells (listed o) back j h (omega (arith, (passed_order o e.passed).size, (passed o e.passed).1))) in
+    λ i. record { len = sym (recorded_length o.len _ (exchange_order o.len (listed o) (passed_listed o e.passed) (suc j))) i; cells = swap i }
 
 -- ---- the order that is made
 
 module _ (o : Order) (d : number_of (order_checks o) ≡ 0) (k : ℕ) where
   ordered : is_order o.len (exchange k (listed o)) ≡ true
-  ordered = exchange-order o.len (listed o) (passed-listed o d) k
+  ordered = exchange_order o.len (listed o) (passed_listed o d) k
 
   pub same_length : (exchanged_order o k).len ≡ o.len
   unfolding exchanged_order
-  same_length = recorded-length o.len _ ordered
+  same_length = recorded_length o.len _ ordered
 
-  pub same-list : listed (exchanged_order o k) ≡ exchange k (listed o)
+  pub same_list_lem : listed (exchanged_order o k) ≡ exchange k (listed o)
   unfolding exchanged_order
-  same-list = recorded-list o.len _ ordered (passed o d).0 (passed o d).1
+  same_list_lem = recorded_list o.len _ ordered (passed o d).0 (passed o d).1
 
-  pub exchanged-passes : number_of (order_checks (exchanged_order o k)) ≡ 0
+  pub exchanged_passes : number_of (order_checks (exchanged_order o k)) ≡ 0
   unfolding exchanged_order
-  exchanged-passes = recorded-passes o.len _ ordered (passed o d).0 (passed o d).1
+  exchanged_passes = recorded_passes o.len _ ordered (passed o d).0 (passed o d).1

@@ -37,8 +37,8 @@ sum_more {n} {i} {u} {v} t =
 
 -- whether w + d, or what is d less than w, is divisible
 module _ (m : ℕ) (d : ℕ) (l : d < m) where
-  more-divides : 0 < d → (w : ℕ) → ((w + d) % m ≡ 0) ↔ (w % m + d ≡ m)
-  more-divides g w =
+  more_divides : 0 < d → (w : ℕ) → ((w + d) % m ≡ 0) ↔ (w % m + d ≡ m)
+  more_divides g w =
       let s = w % m in
       let low : s < m = mod-lt w (omega arith) in
       let e : (w + d) % m ≡ (s + d) % m = sym (mod-add-mod w m d) in
@@ -46,8 +46,8 @@ module _ (m : ℕ) (d : ℕ) (l : d < m) where
       (λ t. let f : (s + d) % m ≡ s + d - m = mod-eq-sub-mod t.0 ∙ mod-eq_of_lt (omega arith) in (λ p. omega arith, λ q. omega arith))
       (lt_cases (s + d) m)
 
-  less-divides : (w : ℕ) → (w % m ≡ 0) ↔ ((w + d) % m ≡ d)
-  less-divides w =
+  less_divides : (w : ℕ) → (w % m ≡ 0) ↔ ((w + d) % m ≡ d)
+  less_divides w =
       let s = w % m in
       let low : s < m = mod-lt w (omega arith) in
       let e : (w + d) % m ≡ (s + d) % m = sym (mod-add-mod w m d) in
@@ -75,39 +75,39 @@ module _ (n : ℕ) (u : List ℕ) (o : IsOrder n u) (k : ℕ) (h : suc k < n) wh
   neighbours = exchange_at k u (omega (arith, o.size))
 
   -- two cells of the order
-  pub place-cells : ((1 ≤ a) × (a ≤ n)) × ((1 ≤ b) × (b ≤ n)) × (a ≡ b → ⊥)
-  place-cells = (order_range n u o k (omega arith), order_range n u o (suc k) h, exchanged_apart neighbours (order_distinct o))
+  pub place_cells : ((1 ≤ a) × (a ≤ n)) × ((1 ≤ b) × (b ≤ n)) × (a ≡ b → ⊥)
+  place_cells = (order_range n u o k (omega arith), order_range n u o (suc k) h, exchanged_apart neighbours (order_distinct o))
 
   -- the coordinate of the greater one changes
-  pub place-more : a < b → OneMore n (b - 1) u (exchange (suc k) u)
-  place-more l = coordinate_more neighbours o l
+  pub place_more : a < b → OneMore n (b - 1) u (exchange (suc k) u)
+  place_more l = coordinate_more neighbours o l
 
-  pub place-less : b < a → OneMore n (a - 1) (exchange (suc k) u) u
-  place-less l = coordinate_less neighbours o l
+  pub place_less : b < a → OneMore n (a - 1) (exchange (suc k) u) u
+  place_less l = coordinate_less neighbours o l
 
-  sum-up : a < b → sum_of n (exchange (suc k) u) ≡ sum_of n u + (b - 1)
-  sum-up l = sum_more (place-more l)
+  sum_up : a < b → sum_of n (exchange (suc k) u) ≡ sum_of n u + (b - 1)
+  sum_up l = sum_more (place_more l)
 
-  sum-down : b < a → sum_of n u ≡ sum_of n (exchange (suc k) u) + (a - 1)
-  sum-down l = sum_more (place-less l)
+  sum_down : b < a → sum_of n u ≡ sum_of n (exchange (suc k) u) + (a - 1)
+  sum_down l = sum_more (place_less l)
 
   -- the syndrome tells whether it makes a codeword
-  pub corrects-by : is_codeword n (exchange (suc k) u) ≡ corrects_by n (syndrome_of n u) a b
+  pub corrects_by_lem : is_codeword n (exchange (suc k) u) ≡ corrects_by n (syndrome_of n u) a b
   unfolding is_codeword leaves corrects_by syndrome_of
-  corrects-by =
-      let (p, q, apart) = place-cells in
+  corrects_by_lem =
+      let (p, q, apart) = place_cells in
       ⊎_elim
-      (λ t. rw (t.1, sum-up t.0) (same_test _ _ _ _ (more-divides (modulus n) (b - 1) (omega arith) (omega arith) (sum_of n u))))
-      (λ t. rw (t.1, sum-down (omega arith)) (same_test _ _ _ _ (less-divides (modulus n) (a - 1) (omega arith) (sum_of n (exchange (suc k) u)))))
+      (λ t. rw (t.1, sum_up t.0) (same_test _ _ _ _ (more_divides (modulus n) (b - 1) (omega arith) (omega arith) (sum_of n u))))
+      (λ t. rw (t.1, sum_down (omega arith)) (same_test _ _ _ _ (less_divides (modulus n) (a - 1) (omega arith) (sum_of n (exchange (suc k) u)))))
       (lt_cases a b)
 
   pub correcting : is_codeword n (exchange (suc k) u) ≡ true
       → ((a < b) × (syndrome_of n u + (b - 1) ≡ modulus n)) ⊎ ((b < a) × (syndrome_of n u ≡ a - 1))
   unfolding corrects_by
   correcting e =
-      let (_, _, apart) = place-cells in
+      let (_, _, apart) = place_cells in
       let s = syndrome_of n u in
-      let f = sym corrects-by ∙ e in
+      let f = sym corrects_by_lem ∙ e in
       ⊎_elim (λ t. inl (t.0, eqb-true (s + (b - 1)) (modulus n) (rw t.1 at f)))
       (λ t. inr (omega arith, eqb-true s (a - 1) (rw t.1 at f)))
       (lt_cases a b)

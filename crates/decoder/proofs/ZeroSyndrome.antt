@@ -8,13 +8,13 @@ use lib.Dec.{eqb}
 use Rattle.order.specs.declared.Order.{Order}
 use Rattle.order.specs.Refusals.{outcome_number, number_of, Told, answer}
 use Rattle.order.specs.Order.{listed, order_checks}
-use Rattle.order.proofs.Refusals.{told-done}
+use Rattle.order.proofs.Refusals.{told_done}
 use Rattle.order.proofs.Records.{passed}
 use Rattle.coordinates.specs.declared.Sweep.{Sweep}
 use Rattle.coordinates.specs.declared.SweepAnswer.{SweepAnswer}
 use Rattle.coordinates.specs.Conversion.{coordinates_of}
 use Rattle.coordinates.specs.Sweep.{sweep_of, told_sweep, sweep_of_order}
-use Rattle.coordinates.proofs.Sweeping.{sweep-coordinates, sweep-sum}
+use Rattle.coordinates.proofs.Sweeping.{sweep_coordinates, sweep_sum}
 use Rattle.decoder.specs.Decoding.{modulus, leaves, is_codeword}
 use Rattle.decoder.specs.Steps.{syndrome_of}
 
@@ -32,21 +32,21 @@ module _ (o : Order) (k : ℕ) (a : SweepAnswer) (e : told_sweep a ≡ sweep_of_
 
   -- of all its places
   module _ (d : number_of (order_checks o) ≡ 0) (l : o.len ≤ k) where
-    same-sweep : a.sweep ≡ sweep_of o k
+    same_sweep : a.sweep ≡ sweep_of o k
     unfolding sweep_of_order
-    same-sweep = ap (λ (t : Told Sweep). t.value) (e ∙ sym (told-done _ _ _ d))
+    same_sweep = ap (λ (t : Told Sweep). t.value) (e ∙ sym (told_done _ _ _ d))
 
-    pub same-coordinates : a.sweep.coordinates ≡ coordinates_of o
-    same-coordinates = rw same-sweep (sweep-coordinates o d k l)
+    pub same_coordinates : a.sweep.coordinates ≡ coordinates_of o
+    same_coordinates = rw same_sweep (sweep_coordinates o d k l)
 
     -- the sum gives the syndrome
-    pub same-syndrome : a.sweep.sum % modulus o.len ≡ syndrome_of o.len (listed o)
+    pub same_syndrome : a.sweep.sum % modulus o.len ≡ syndrome_of o.len (listed o)
     unfolding syndrome_of
-    same-syndrome = rw same-sweep (ap (λ (w : ℕ). w % modulus o.len) (sweep-sum o d k l))
+    same_syndrome = rw same_sweep (ap (λ (w : ℕ). w % modulus o.len) (sweep_sum o d k l))
 
     -- it says whether the order is a codeword
-    pub sum-tested : eqb (a.sweep.sum % modulus o.len) 0 ≡ is_codeword o.len (listed o)
-    sum-tested = ap (λ (s : ℕ). eqb s 0) same-syndrome ∙ sym (code_syndrome o.len (listed o))
+    pub sum_tested : eqb (a.sweep.sum % modulus o.len) 0 ≡ is_codeword o.len (listed o)
+    sum_tested = ap (λ (s : ℕ). eqb s 0) same_syndrome ∙ sym (code_syndrome o.len (listed o))
 
 -- an order that passed its checks has a size that `syndrome` takes
 pub passed_size : (o : Order) → number_of (order_checks o) ≡ 0 → (1 ≤ o.len) × (o.len ≤ 12)

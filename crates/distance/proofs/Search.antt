@@ -33,9 +33,9 @@ module _ {xs : List ℕ} {n c i : ℕ} (s : Passed xs n c i) where
     pub passed_here : x ≡ c → i + 1 ≡ place_of (take n xs) c
     passed_here e = add-one i ∙ sym (step (eq-eqb c x (sym e)))
 
-    pub passed-more : (x ≡ c → ⊥) → Passed xs n c (i + 1)
-    passed-more e = record { fits = s.fits; left = omega arith; later = rw (add-one i) (step (ne_eqb c x (λ f. e (sym f)))) }
+    pub passed_more : (x ≡ c → ⊥) → Passed xs n c (i + 1)
+    passed_more e = record { fits = s.fits; left = omega arith; later = rw (add-one i) (step (ne_eqb c x (λ f. e (sym f)))) }
 
-  pub passed-all : n ≤ i → 0 ≡ place_of (take n xs) c
+  pub passed_all : n ≤ i → 0 ≡ place_of (take n xs) c
   unfolding place_from
-  passed-all l = sym (s.later ∙ rw (drop_of_length-le (take n xs) {i = i} (omega (arith, length-take-le n xs s.fits))))
+  passed_all l = sym (s.later ∙ rw (drop_of_length-le (take n xs) {i = i} (omega (arith, length-take-le n xs s.fits))))

@@ -46,22 +46,22 @@ module _ {u v : Order} {n p : ℕ} (s : Step u v n p) where
       (last_dropped (subst (λ (l : List ℕ). SameCells l (front n v)) whole (record { same = both.same }))
       (subst Distinct whole (record { once = both.once })))
 
-  pub place-first : 1 ≤ p
-  place-first = dropped.at.first
+  pub place_first : 1 ≤ p
+  place_first = dropped.at.first
 
-  pub place-last : p ≤ n
-  place-last = omega (arith, dropped.at.last, size)
+  pub place_last : p ≤ n
+  place_last = omega (arith, dropped.at.last, size)
 
   module _ (w : Order) (closed : front (n - 1) w ≡ without p (front n v)) where
-    pub next-listed : SameFront u w (n - 1)
-    next-listed = record {
+    pub next_listed : SameFront u w (n - 1)
+    next_listed = record {
       small = omega (arith, both.small);
       same = rw closed dropped.same.same;
       once = dropped.distinct.once;
     }
 
-    pub next-distance : opposed (front n u) (front n v) ≡ opposed (front (n - 1) u) (front (n - 1) w) + (n - p)
-    next-distance =
+    pub next_distance : opposed (front n u) (front n v) ≡ opposed (front (n - 1) u) (front (n - 1) w) + (n - p)
+    next_distance =
         ap (λ (l : List ℕ). opposed l (front n v)) whole ∙ dropped.sum
         ∙ ap₂ ◌+◌ (ap (opposed (front (n - 1) u)) (sym closed)) (omega (arith, size))
 

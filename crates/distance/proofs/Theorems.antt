@@ -1,10 +1,10 @@
 -- The distance of two orders of n cells, as lists of cell numbers.
 --
 --   distance_least       no fewer neighbour exchanges lead from u to v, whatever the places
---   distance-reached     as many do, each at a place from 1 to n - 1
---   distance-symmetric   the distance is the same both ways
---   distance-zero        it is 0 for equal orders, and only for these
---   distance-one         it is 1 where one exchange leads from u to v, and only there
+--   distance_reached     as many do, each at a place from 1 to n - 1
+--   distance_symmetric   the distance is the same both ways
+--   distance_zero        it is 0 for equal orders, and only for these
+--   distance_one         it is 1 where one exchange leads from u to v, and only there
 -- Assumes nothing.
 use Prim.Native.Nat.{ℕ, ◌≤◌, ◌<◌}
 use native.Mathlib.Omega.{arith}
@@ -21,27 +21,27 @@ use Rattle.distance.proofs.Opposed.{opposed_self, opposed_zero, least, reached}
 use Rattle.distance.proofs.Apart.{one_apart, opposed_sym}
 
 module _ (n : ℕ) (u : List ℕ) (p : is_order n u ≡ true) where
-  order-u : IsOrder n u
-  order-u = order_true n u p
+  order_u : IsOrder n u
+  order_u = order_true n u p
 
   distinct : Distinct u
-  distinct = order_distinct order-u
+  distinct = order_distinct order_u
 
   pub distance_least : (v ks : List ℕ) → exchanges ks u ≡ v → opposed u v ≤ length ks
   distance_least v ks e = omega (arith, least distinct ks, ap (opposed u) e)
 
   module _ (v : List ℕ) (q : is_order n v ≡ true) where
     same : SameCells u v
-    same = order_same order-u (order_true n v q)
+    same = order_same order_u (order_true n v q)
 
-    pub distance-reached : (ks : List ℕ) × (exchanges ks u ≡ v) × (length ks ≡ opposed u v) × ((k : ℕ) → 0 < count k ks → (1 ≤ k) × (k < n))
-    distance-reached = let (ks, l, e, h) = reached same distinct in (ks, e, l, rw order-u.size at h)
+    pub distance_reached : (ks : List ℕ) × (exchanges ks u ≡ v) × (length ks ≡ opposed u v) × ((k : ℕ) → 0 < count k ks → (1 ≤ k) × (k < n))
+    distance_reached = let (ks, l, e, h) = reached same distinct in (ks, e, l, rw order_u.size at h)
 
-    pub distance-symmetric : opposed u v ≡ opposed v u
-    distance-symmetric = opposed_sym same distinct
+    pub distance_symmetric : opposed u v ≡ opposed v u
+    distance_symmetric = opposed_sym same distinct
 
-    pub distance-zero : (opposed u v ≡ 0) ↔ (u ≡ v)
-    distance-zero = (opposed_zero same distinct, λ e. ap (opposed u) (sym e) ∙ opposed_self distinct)
+    pub distance_zero : (opposed u v ≡ 0) ↔ (u ≡ v)
+    distance_zero = (opposed_zero same distinct, λ e. ap (opposed u) (sym e) ∙ opposed_self distinct)
 
-    pub distance-one : (opposed u v ≡ 1) ↔ ((k : ℕ) × (1 ≤ k) × (k < n) × (v ≡ exchange k u))
-    distance-one = rw order-u.size at (one_apart same distinct)
+    pub distance_one : (opposed u v ≡ 1) ↔ ((k : ℕ) × (1 ≤ k) × (k < n) × (v ≡ exchange k u))
+    distance_one = rw order_u.size at (one_apart same distinct)

@@ -17,19 +17,19 @@ use Rattle.order.specs.declared.Outcome.TheVariants.{Done, Refused}
 use Rattle.order.specs.Refusals.{refusal_number, outcome_number, number_of, Told, answer}
 use Rattle.order.specs.Cells.{is_order}
 use Rattle.order.specs.Order.{listed, order_record, is_order_of, order_checks, told_order}
-use Rattle.order.proofs.Refusals.{refused_zeros, check-holds, check-fails, check_held, later-decide, refused-first, outcome-first, told-done, told-refused, passed_on, accepted, size_in, all_hold, all_held}
-use Rattle.order.proofs.Records.{passed, recorded-length, recorded-list, recorded-passes}
+use Rattle.order.proofs.Refusals.{refused_zeros, check_holds, check_fails, check_held, later_decide, refused_first, outcome_first, told_done, told_refused, passed_on, accepted, size_in, all_hold, all_held}
+use Rattle.order.proofs.Records.{passed, recorded_length, recorded_list, recorded_passes}
 use Rattle.decoder.specs.Decoding.{correction}
 use Rattle.code.specs.declared.Verdict.{Verdict}
 use Rattle.code.specs.Words.{K}
 use Rattle.code.specs.Symbols.{word_of, Reading, no_reading, reading_at, codeword_checks, codeword_of, decode_of}
-use Rattle.code.proofs.Codewords.{symbol-order}
+use Rattle.code.proofs.Codewords.{symbol_order}
 use Rattle.group.specs.declared.Group.{Group}
 use Rattle.group.specs.Record.{group_checks}
 use Rattle.push_up.specs.PushUp.{singles}
 use Rattle.push_up.specs.WriteAnswer.{write_checks, push_checks, pushed, unpushed, write_of}
 use Rattle.sensing.specs.Sense.{sense_of}
-use Rattle.group.proofs.Checks.{checked-size}
+use Rattle.group.proofs.Checks.{checked_size}
 use Rattle.sensing.proofs.Sensed.{sensed_order_lem}
 use Rattle.engine.specs.declared.ReadAnswer.{ReadAnswer}
 use Rattle.engine.specs.declared.ReadAnswer.TheVariants as read
@@ -52,29 +52,29 @@ same_first ((false, r) ∷ first) a b x y zeros h = rw (refused_zeros r x zeros,
 -- ---- the order that is sensed
 
 module _ (g : Group) (a : OrderAnswer) (e : told_order a ≡ sense_of g) where
-  pub sense-number : outcome_number a.outcome ≡ number_of (group_checks g)
+  pub sense_number : outcome_number a.outcome ≡ number_of (group_checks g)
   unfolding sense_of answer
-  sense-number = ap (λ (t : Told Order). t.number) e
+  sense_number = ap (λ (t : Told Order). t.number) e
 
-  pub sense-record : number_of (group_checks g) ≡ 0 → a.order ≡ order_record (sensed_order g)
+  pub sense_record : number_of (group_checks g) ≡ 0 → a.order ≡ order_record (sensed_order g)
   unfolding sense_of
-  sense-record d = ap (λ (t : Told Order). t.value) (e ∙ sym (told-done _ _ _ d))
+  sense_record d = ap (λ (t : Told Order). t.value) (e ∙ sym (told_done _ _ _ d))
 
 -- ---- the mark, which is asked where the record is a group
 
 module _ (g : Group) where
-  pub mark-unasked : (r : Refusal) → number_of (group_checks g) ≡ refusal_number r → number_of (marked_checks g) ≡ refusal_number r
-  mark-unasked r e = refused-first _ (group_checks g) r e
+  pub mark_unasked : (r : Refusal) → number_of (group_checks g) ≡ refusal_number r → number_of (marked_checks g) ≡ refusal_number r
+  mark_unasked r e = refused_first _ (group_checks g) r e
 
   module _ (d : number_of (group_checks g) ≡ 0) where
-    pub mark-fails : g.written ≡ false → number_of (marked_checks g) ≡ refusal_number Blank
-    mark-fails w = later-decide _ (group_checks g) d ∙ check-fails _ _ w
+    pub mark_fails : g.written ≡ false → number_of (marked_checks g) ≡ refusal_number Blank
+    mark_fails w = later_decide _ (group_checks g) d ∙ check_fails _ _ w
 
-    pub mark-holds : g.written ≡ true → number_of (marked_checks g) ≡ 0
-    mark-holds w = later-decide _ (group_checks g) d ∙ check-holds _ _ w ∙ all_hold
+    pub mark_holds : g.written ≡ true → number_of (marked_checks g) ≡ 0
+    mark_holds w = later_decide _ (group_checks g) d ∙ check_holds _ _ w ∙ all_hold
 
-  pub mark-held : number_of (marked_checks g) ≡ 0 → (number_of (group_checks g) ≡ 0) × (g.written ≡ true)
-  mark-held m = let t = all_held _ (group_checks g) m in (t.0, (check_held g.written Blank [] t.1).0)
+  pub mark_held : number_of (marked_checks g) ≡ 0 → (number_of (group_checks g) ≡ 0) × (g.written ≡ true)
+  mark_held m = let t = all_held _ (group_checks g) m in (t.0, (check_held g.written Blank [] t.1).0)
 
 -- ---- read
 
@@ -86,136 +86,136 @@ module _ (g : Group) where
   -- what a read that is done answered
   pub read_done : number_of (read_checks g) ≡ 0 → read_of g ≡ record { number = 0; value = reading_of g }
   unfolding read_of
-  read_done d = sym (told-done _ _ _ d)
+  read_done d = sym (told_done _ _ _ d)
 
   -- the record is no group, or blank
-  pub read-refused : (r : Refusal) → number_of (marked_checks g) ≡ refusal_number r → record { number = refusal_number r; value = no_reading } ≡ read_of g
+  pub read_refused : (r : Refusal) → number_of (marked_checks g) ≡ refusal_number r → record { number = refusal_number r; value = no_reading } ≡ read_of g
   unfolding read_of
-  read-refused r e = told-refused _ _ _ r (refused-first _ (marked_checks g) r e)
+  read_refused r e = told_refused _ _ _ r (refused_first _ (marked_checks g) r e)
 
   -- the sensed order, in its record
-  pub sensed-recorded : number_of (group_checks g) ≡ 0 → ((order_record (sensed_order g)).len ≡ g.n) × (listed (order_record (sensed_order g)) ≡ sensed_order g)
-  sensed-recorded d =
+  pub sensed_recorded : number_of (group_checks g) ≡ 0 → ((order_record (sensed_order g)).len ≡ g.n) × (listed (order_record (sensed_order g)) ≡ sensed_order g)
+  sensed_recorded d =
       let t = sensed_order_lem g.n g.levels in
-      let size = checked-size g d in
-      (recorded-length g.n (sensed_order g) t, recorded-list g.n (sensed_order g) t size.0 size.1)
+      let size = checked_size g d in
+      (recorded_length g.n (sensed_order g) t, recorded_list g.n (sensed_order g) t size.0 size.1)
 
   -- a written group: the reading of the sensed order
-  pub read-decoded : number_of (marked_checks g) ≡ 0 → decode_of (order_record (sensed_order g)) ≡ read_of g
+  pub read_decoded : number_of (marked_checks g) ≡ 0 → decode_of (order_record (sensed_order g)) ≡ read_of g
   unfolding read_of decode_of
-  read-decoded m =
-      let d = (mark-held g m).0 in
+  read_decoded m =
+      let d = (mark_held g m).0 in
       let xs = sensed_order g in
       let t = sensed_order_lem g.n g.levels in
-      let size = checked-size g d in
+      let size = checked_size g d in
       let o = order_record xs in
-      let same = sensed-recorded d in
+      let same = sensed_recorded d in
       same_answer (order_checks o ++ (ltb (correction o.len (listed o)) o.len, Lost) ∷ []) (read_checks g)
       (reading_at o.len (listed o) (correction o.len (listed o))) (reading_of g) no_reading
-      (later-decide _ (order_checks o) (recorded-passes g.n xs t size.0 size.1)
-      ∙ rw (same.1, same.0) (sym (later-decide _ (marked_checks g) m)))
+      (later_decide _ (order_checks o) (recorded_passes g.n xs t size.0 size.1)
+      ∙ rw (same.1, same.0) (sym (later_decide _ (marked_checks g) m)))
       (rw (same.1, same.0))
 
 -- ---- the write of an order of the group's cells: refused as worn or as spent alone
 
 module _ (g : Group) (d : number_of (group_checks g) ≡ 0) (w : List ℕ) (t : is_order g.n w ≡ true) where
-  pub write-listed : (checks : List (Bool × Refusal)) → number_of checks ≡ number_of (push_checks g (singles w)) → write_of g (order_record w) ≡ answer checks (pushed true g (singles w)) (unpushed g)
+  pub write_listed : (checks : List (Bool × Refusal)) → number_of checks ≡ number_of (push_checks g (singles w)) → write_of g (order_record w) ≡ answer checks (pushed true g (singles w)) (unpushed g)
   unfolding write_of
-  write-listed checks e =
+  write_listed checks e =
       let o = order_record w in
-      let (low, high) = checked-size g d in
-      let list : listed o ≡ w = recorded-list g.n w t low high in
-      let ordered : is_order_of g.n o ≡ true = ap (λ (k : ℕ). is_order_of k o) (sym (recorded-length g.n w t)) ∙ (passed o (recorded-passes g.n w t low high)).2 in
+      let (low, high) = checked_size g d in
+      let list : listed o ≡ w = recorded_list g.n w t low high in
+      let ordered : is_order_of g.n o ≡ true = ap (λ (k : ℕ). is_order_of k o) (sym (recorded_length g.n w t)) ∙ (passed o (recorded_passes g.n w t low high)).2 in
       same_answer (write_checks g o) checks (pushed true g (singles (listed o))) (pushed true g (singles w)) (unpushed g)
-      (later-decide _ (group_checks g) d ∙ check-holds _ _ ordered ∙ rw list (sym e))
+      (later_decide _ (group_checks g) d ∙ check_holds _ _ ordered ∙ rw list (sym e))
       (ap (λ (xs : List ℕ). pushed true g (singles xs)) list)
 
 -- ---- store
 
 module _ (g : Group) (s : ℕ) where
   -- the record is no group
-  pub store-refused : {o : Outcome} {r : Refusal} → outcome_number o ≡ number_of (group_checks g) → o ≡ Refused r
+  pub store_refused_lem : {o : Outcome} {r : Refusal} → outcome_number o ≡ number_of (group_checks g) → o ≡ Refused r
       → record { number = outcome_number o; value = unpushed g } ≡ store_of g s
   unfolding store_of
-  store-refused e d = passed_on _ _ _ _ (outcome-first _ (group_checks g) e d) _ d
+  store_refused_lem e d = passed_on _ _ _ _ (outcome_first _ (group_checks g) e d) _ d
 
   -- a write of any order refuses it likewise
-  pub store-by-write : (o : Order) → (number_of (group_checks g) ≡ 0 → write_of g o ≡ store_of g s) → write_of g o ≡ store_of g s
+  pub store_by_write : (o : Order) → (number_of (group_checks g) ≡ 0 → write_of g o ≡ store_of g s) → write_of g o ≡ store_of g s
   unfolding write_of store_of
-  store-by-write o h = same_first (group_checks g) _ _ _ _ (unpushed g) h
+  store_by_write o h = same_first (group_checks g) _ _ _ _ (unpushed g) h
 
   module _ (d : number_of (group_checks g) ≡ 0) where
     abbrev symbol_check : List (Bool × Refusal)
     symbol_check = (ltb s (K g.n), NoSymbol) ∷ []
 
     -- the size has passed, so that the symbol decides
-    symbol-decides : number_of (codeword_checks g.n s) ≡ number_of symbol_check
-    symbol-decides = let size = checked-size g d in check-holds _ _ (size_in g.n size.0 size.1)
+    symbol_decides : number_of (codeword_checks g.n s) ≡ number_of symbol_check
+    symbol_decides = let size = checked_size g d in check_holds _ _ (size_in g.n size.0 size.1)
 
     module _ (a : OrderAnswer) (e : told_order a ≡ codeword_of g.n s) where
-      codeword-number : outcome_number a.outcome ≡ number_of symbol_check
+      codeword_number : outcome_number a.outcome ≡ number_of symbol_check
       unfolding codeword_of answer
-      codeword-number = ap (λ (t : Told Order). t.number) e ∙ symbol-decides
+      codeword_number = ap (λ (t : Told Order). t.number) e ∙ symbol_decides
 
-      pub store-no-symbol : {r : Refusal} → a.outcome ≡ Refused r → record { number = outcome_number a.outcome; value = unpushed g } ≡ store_of g s
+      pub store_no_symbol : {r : Refusal} → a.outcome ≡ Refused r → record { number = outcome_number a.outcome; value = unpushed g } ≡ store_of g s
       unfolding store_of
-      store-no-symbol o = passed_on _ _ _ _ (outcome-first (push_checks g (singles (word_of g.n s))) symbol_check codeword-number o ∙ sym (later-decide _ (group_checks g) d)) _ o
+      store_no_symbol o = passed_on _ _ _ _ (outcome_first (push_checks g (singles (word_of g.n s))) symbol_check codeword_number o ∙ sym (later_decide _ (group_checks g) d)) _ o
 
       module _ (o : a.outcome ≡ Done) where
-        pub symbol-below : s < K g.n
-        symbol-below = ltb-true s (K g.n) (check_held _ NoSymbol [] (accepted codeword-number o)).0
+        pub symbol_below : s < K g.n
+        symbol_below = ltb-true s (K g.n) (check_held _ NoSymbol [] (accepted codeword_number o)).0
 
-        pub codeword-record : a.order ≡ order_record (word_of g.n s)
+        pub codeword_record : a.order ≡ order_record (word_of g.n s)
         unfolding codeword_of word_of
-        codeword-record = ap (λ (t : Told Order). t.value) (e ∙ sym (told-done _ _ _ (symbol-decides ∙ accepted codeword-number o)))
+        codeword_record = ap (λ (t : Told Order). t.value) (e ∙ sym (told_done _ _ _ (symbol_decides ∙ accepted codeword_number o)))
 
     -- the codeword is an order of the group's cells, so that to write it is to store the symbol
     module _ (below : s < K g.n) where
-      pub word-order : is_order g.n (word_of g.n s) ≡ true
+      pub word_order : is_order g.n (word_of g.n s) ≡ true
       unfolding word_of
-      word-order = symbol-order g.n (omega (arith, (checked-size g d).0)) s below
+      word_order = symbol_order g.n (omega (arith, (checked_size g d).0)) s below
 
-      pub store-written : write_of g (order_record (word_of g.n s)) ≡ store_of g s
+      pub store_written : write_of g (order_record (word_of g.n s)) ≡ store_of g s
       unfolding store_of
-      store-written =
-          write-listed g d (word_of g.n s) word-order (store_checks g s)
-          (later-decide _ (group_checks g) d ∙ check-holds _ _ (lt-ltb s (K g.n) below))
+      store_written =
+          write_listed g d (word_of g.n s) word_order (store_checks g s)
+          (later_decide _ (group_checks g) d ∙ check_holds _ _ (lt-ltb s (K g.n) below))
 
 -- ---- alike
 
 module _ (g h : Group) where
   -- the first group's read decides where it is refused, the second's where the first is done
-  pub alike-first : (r : Refusal) → (read_of g).number ≡ refusal_number r → record { number = refusal_number r; value = false } ≡ alike_of g h
+  pub alike_first : (r : Refusal) → (read_of g).number ≡ refusal_number r → record { number = refusal_number r; value = false } ≡ alike_of g h
   unfolding alike_of
-  alike-first r e = told-refused _ _ _ r (refused-first (read_checks h) (read_checks g) r (sym (read_number g) ∙ e))
+  alike_first r e = told_refused _ _ _ r (refused_first (read_checks h) (read_checks g) r (sym (read_number g) ∙ e))
 
   module _ (d : (read_of g).number ≡ 0) where
     second : number_of (read_checks g ++ read_checks h) ≡ (read_of h).number
-    second = later-decide (read_checks h) (read_checks g) (sym (read_number g) ∙ d) ∙ sym (read_number h)
+    second = later_decide (read_checks h) (read_checks g) (sym (read_number g) ∙ d) ∙ sym (read_number h)
 
-    pub alike-second : (r : Refusal) → (read_of h).number ≡ refusal_number r → record { number = refusal_number r; value = false } ≡ alike_of g h
+    pub alike_second : (r : Refusal) → (read_of h).number ≡ refusal_number r → record { number = refusal_number r; value = false } ≡ alike_of g h
     unfolding alike_of
-    alike-second r e = told-refused _ _ _ r (second ∙ e)
+    alike_second r e = told_refused _ _ _ r (second ∙ e)
 
-    pub alike-done : (read_of h).number ≡ 0
+    pub alike_done : (read_of h).number ≡ 0
         → record { number = 0; value = eqb g.n h.n && eqb (read_of g).value.symbol (read_of h).value.symbol } ≡ alike_of g h
     unfolding alike_of
-    alike-done e = rw (read_done g (sym (read_number g) ∙ d), read_done h (sym (read_number h) ∙ e)) (told-done _ _ _ (second ∙ e))
+    alike_done e = rw (read_done g (sym (read_number g) ∙ d), read_done h (sym (read_number h) ∙ e)) (told_done _ _ _ (second ∙ e))
 
   -- the same of the answers to the reads
   module _ (a : ReadAnswer) (e : told_read a ≡ read_of g) where
-    pub first-refused : {r : Refusal} → a ≡ read.Refused r → record { number = (told_read a).number; value = false } ≡ alike_of g h
-    first-refused {r} o = rw o (alike-first r (ap (λ (t : Told Reading). t.number) (rw o at (sym e))))
+    pub first_refused : {r : Refusal} → a ≡ read.Refused r → record { number = (told_read a).number; value = false } ≡ alike_of g h
+    first_refused {r} o = rw o (alike_first r (ap (λ (t : Told Reading). t.number) (rw o at (sym e))))
 
     module _ {s : ℕ} {v : Verdict} (o : a ≡ read.Read s v) where
       done : read_of g ≡ record { number = 0; value = record { symbol = s; verdict = some v } }
       done = rw o at (sym e)
 
       module _ (b : ReadAnswer) (f : told_read b ≡ read_of h) where
-        pub second-refused : {r : Refusal} → b ≡ read.Refused r → record { number = (told_read b).number; value = false } ≡ alike_of g h
-        second-refused {r} p = rw p (alike-second (rw done) r (ap (λ (t : Told Reading). t.number) (rw p at (sym f))))
+        pub second_refused : {r : Refusal} → b ≡ read.Refused r → record { number = (told_read b).number; value = false } ≡ alike_of g h
+        second_refused {r} p = rw p (alike_second (rw done) r (ap (λ (t : Told Reading). t.number) (rw p at (sym f))))
 
         pub both_read : {t : ℕ} {w : Verdict} → b ≡ read.Read t w → record { number = 0; value = eqb g.n h.n && eqb s t } ≡ alike_of g h
         both_read {t} {w} p =
             let done-2 : read_of h ≡ record { number = 0; value = record { symbol = t; verdict = some w } } = rw p at (sym f) in
-            rw (done, done-2) at (alike-done (rw done) (rw done-2))
+            rw (done, done-2) at (alike_done (rw done) (rw done-2))

@@ -36,14 +36,14 @@ pub rules_hold : (g : Group) → Rules g → number_of (group_checks g) ≡ 0
 rules_hold g r = sized_holds g.n (has_rows g && has_tallies g) NoGroup r.small r.large (rw (r.levels, r.caps, r.endurance, r.used))
 
 module _ (g : Group) (d : number_of (group_checks g) ≡ 0) where
-  pub checked-size : (3 ≤ g.n) × (g.n ≤ 12)
-  checked-size = let r = rules_held g d in (r.small, r.large)
+  pub checked_size : (3 ≤ g.n) × (g.n ≤ 12)
+  checked_size = let r = rules_held g d in (r.small, r.large)
 
-  pub checked-levels : is_row 4095 g.n g.levels ≡ true
-  checked-levels = (rules_held g d).levels
+  pub checked_levels : is_row 4095 g.n g.levels ≡ true
+  checked_levels = (rules_held g d).levels
 
-  pub checked-caps : is_row 4095 g.n g.caps ≡ true
-  checked-caps = (rules_held g d).caps
+  pub checked_caps : is_row 4095 g.n g.caps ≡ true
+  checked_caps = (rules_held g d).caps
 
 pub cell_true : (n c : ℕ) → is_cell n c ≡ true → (1 ≤ c) × (c ≤ n)
 cell_true n c e = let t = both (leb 1 c) (leb c n) e in (leb-true 1 c t.0, leb-true c n t.1)

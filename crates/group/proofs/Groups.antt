@@ -32,9 +32,9 @@ told_accepted checks result zeros e = (e, rw e)
 
 module _ (g : Group) (h : IsGroup g) where
   -- good levels, caps nowhere above the old ones, and used pulses that the endurance allows
-  pub group-with : (ls ks us : List ℕ) (w : Bool) → is_row 4095 g.n ls ≡ true → length ls ≡ 12 → AtMost ks g.caps → is_row g.endurance g.n us ≡ true → length us ≡ 12
+  pub group_with : (ls ks us : List ℕ) (w : Bool) → is_row 4095 g.n ls ≡ true → length ls ≡ 12 → AtMost ks g.caps → is_row g.endurance g.n us ≡ true → length us ≡ 12
       → IsGroup (changed g ls ks us w)
-  group-with ls ks us w r l p q u =
+  group_with ls ks us w r l p q u =
       let rules = rules_held g h.passes in
       record {
         passes =
@@ -46,5 +46,5 @@ module _ (g : Group) (h : IsGroup g) where
       }
 
   -- the same with the used pulses that it has
-  pub group-kept : (ls ks : List ℕ) (w : Bool) → is_row 4095 g.n ls ≡ true → length ls ≡ 12 → AtMost ks g.caps → IsGroup (changed g ls ks g.used w)
-  group-kept ls ks w r l p = group-with ls ks g.used w r l p (rules_held g h.passes).used h.used
+  pub group_kept : (ls ks : List ℕ) (w : Bool) → is_row 4095 g.n ls ≡ true → length ls ≡ 12 → AtMost ks g.caps → IsGroup (changed g ls ks g.used w)
+  group_kept ls ks w r l p = group_with ls ks g.used w r l p (rules_held g h.passes).used h.used

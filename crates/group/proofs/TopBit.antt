@@ -15,8 +15,8 @@ abbrev pub low : ℕ
 low = 2147483647
 
 module _ (e u w : ℕ) (small : e ≤ low) (fits : u < 2 ^ 32) (less : w < 2 ^ 32) (wraps : (w + u) % 2 ^ 32 ≡ e) where
-  pub above-test : (leb u low && leb w low) ≡ leb u e
-  above-test = go (leb u e) refl
+  pub above_test : (leb u low && leb w low) ≡ leb u e
+  above_test = go (leb u e) refl
     where
       high : (b : Bool) → leb u low ≡ b → e < u → (b && leb w low) ≡ false
       high false f l = refl
@@ -28,30 +28,30 @@ module _ (e u w : ℕ) (small : e ≤ low) (fits : u < 2 ^ 32) (less : w < 2 ^ 3
           rw (le-leb u low (omega arith), le-leb w low (omega arith))
       go false f = high (leb u low) refl (leb-false u e f)
 
-  pub above-gathered : (over : ℕ) (left : Bool) → (leb (bit_or (bit_or over u) w) low && left) ≡ (leb over low && (leb u e && left))
-  above-gathered over left =
+  pub above_gathered : (over : ℕ) (left : Bool) → (leb (bit_or (bit_or over u) w) low && left) ≡ (leb over low && (leb u e && left))
+  above_gathered over left =
       rw (or_at_most 31 low (bit_or over u) w refl, or_at_most 31 low over u refl)
       (and_assoc (leb over low && leb u low) (leb w low) left
       ∙ and_assoc (leb over low) (leb u low) (leb w low && left)
-      ∙ ap (λ (b : Bool). leb over low && b) (sym (and_assoc (leb u low) (leb w low) left) ∙ ap (λ (b : Bool). b && left) above-test))
+      ∙ ap (λ (b : Bool). leb over low && b) (sym (and_assoc (leb u low) (leb w low) left) ∙ ap (λ (b : Bool). b && left) above_test))
 
 -- a number with b one less and w what it leaves of 1,000,000, each modulo 2^32: it is an endurance exactly where none of the three has the top bit
 pub range_test : (e b w : ℕ) → e < 2 ^ 32 → b < 2 ^ 32 → w < 2 ^ 32 → (b + 1) % 2 ^ 32 ≡ e → (w + e) % 2 ^ 32 ≡ 1000000 → leb (bit_or (bit_or e b) w) low ≡ is_endurance e
 range_test e b w fits below left one rest =
-    or_at_most 31 low (bit_or e b) w refl ∙ rw (or_at_most 31 low e b refl) (and-swap (leb e low) (leb b low) (leb w low) ∙ rw (above-test 1000000 e w (omega arith) fits left rest) (by (leb e 1000000) refl))
+    or_at_most 31 low (bit_or e b) w refl ∙ rw (or_at_most 31 low e b refl) (and_swap (leb e low) (leb b low) (leb w low) ∙ rw (above_test 1000000 e w (omega arith) fits left rest) (by (leb e 1000000) refl))
   where
-    and-swap : (p q r : Bool) → ((p && q) && r) ≡ (q && (p && r))
-    and-swap false false r = refl
-    and-swap false true r = refl
-    and-swap true false r = refl
-    and-swap true true r = refl
+    and_swap : (p q r : Bool) → ((p && q) && r) ≡ (q && (p && r))
+    and_swap false false r = refl
+    and_swap false true r = refl
+    and_swap true false r = refl
+    and_swap true true r = refl
 
-    low-one : (t : Bool) → leb 1 e ≡ t → e ≤ 1000000 → leb b low ≡ t
-    low-one true f h = le-leb b low (omega (arith, leb-true 1 e f))
-    low-one false f h = lt-leb b low (omega (arith, leb-false 1 e f))
+    low_one : (t : Bool) → leb 1 e ≡ t → e ≤ 1000000 → leb b low ≡ t
+    low_one true f h = le-leb b low (omega (arith, leb-true 1 e f))
+    low_one false f h = lt-leb b low (omega (arith, leb-false 1 e f))
 
     by : (t : Bool) → leb e 1000000 ≡ t → (leb b low && t) ≡ (leb 1 e && t)
-    by true h = ap (λ (t : Bool). t && true) (low-one (leb 1 e) refl (leb-true e 1000000 h))
+    by true h = ap (λ (t : Bool). t && true) (low_one (leb 1 e) refl (leb-true e 1000000 h))
     by false h = and-false (leb b low) ∙ sym (and-false (leb 1 e))
 
 -- gathered, a bit stays
@@ -75,7 +75,7 @@ limit_at m n i small l h = ap (bit_and m) (row_at 4294967295 0 n i l h) ∙ go (
 pub row_gathered : (m n i over w : ℕ) (xs : List ℕ) → m ≤ low → i < length xs → get_or xs i 0 < 2 ^ 32 → w < 2 ^ 32 → (w + get_or xs i 0) % 2 ^ 32 ≡ limit m n i
     → (leb (bit_or (bit_or over (get_or xs i 0)) w) low && is_row m (n - (i + 1)) (drop (i + 1) xs)) ≡ (leb over low && is_row m (n - i) (drop i xs))
 row_gathered m n i over w xs small l fits less wraps =
-    above-gathered (limit m n i) (get_or xs i 0) w (by (ltb i n)) fits less wraps over _ ∙ ap (λ (b : Bool). leb over low && b) (sym (row_step m n i xs l))
+    above_gathered (limit m n i) (get_or xs i 0) w (by (ltb i n)) fits less wraps over _ ∙ ap (λ (b : Bool). leb over low && b) (sym (row_step m n i xs l))
   where
     by : (b : Bool) → cond b m 0 ≤ low
     by true = small

@@ -18,7 +18,7 @@ use Rattle.order.proofs.Numbers.{cell}
 use Rattle.coordinates.specs.declared.Coordinates.{Coordinates}
 use Rattle.coordinates.specs.Coordinates.{insert_at, order_from, in_range}
 use Rattle.coordinates.specs.Conversion.{coordinate_at, order_by_coordinates}
-use Rattle.insertion.proofs.Insert.{length-insert, insert-before, insert-here, insert-after, Moved, moved_none}
+use Rattle.insertion.proofs.Insert.{length_insert, insert_before, insert_here, insert_after, Moved, moved_none}
 use Rattle.coordinates.proofs.Range.{value_low}
 use Rattle.coordinates.proofs.RoundTrip.{order_is}
 
@@ -31,23 +31,23 @@ cells_of xs = (order_record xs).cells
 module _ (at c : ℕ) (xs : List ℕ) (l : at ≤ length xs) (free : length xs < 12) where
   long : length (insert_at at (cell c) (cells_of xs)) ≡ 13
   unfolding order_record
-  long = length-insert at (cell c) (cells_of xs)
+  long = length_insert at (cell c) (cells_of xs)
 
   cell_at : (k : ℕ) → k < 12 → get_or (insert_at at (cell c) (cells_of xs)) k (cell 0) ≡ cell (get_or (insert_at at c xs) k 0)
   unfolding order_record
   cell_at k g =
       ⊎_elim
-      (λ t. insert-before at (cell c) (cells_of xs) k (cell 0) (omega arith) t.0 ∙ get_d_tabulate 12 (λ k. cell (get_or xs k 0)) k (cell 0) g ∙ sym (ap cell (insert-before at c xs k 0 l t.0)))
+      (λ t. insert_before at (cell c) (cells_of xs) k (cell 0) (omega arith) t.0 ∙ get_d_tabulate 12 (λ k. cell (get_or xs k 0)) k (cell 0) g ∙ sym (ap cell (insert_before at c xs k 0 l t.0)))
       (λ t.
       ⊎_elim
-      (λ q. rw q.0 (insert-here at (cell c) (cells_of xs) (cell 0) (omega arith) ∙ sym (ap cell (insert-here at c xs 0 l))))
-      (λ q. insert-after at (cell c) (cells_of xs) k (cell 0) (omega arith) (omega arith) ∙ get_d_tabulate 12 (λ k. cell (get_or xs k 0)) (k - 1) (cell 0) (omega arith) ∙ sym (ap cell (insert-after at c xs k 0 l (omega arith))))
+      (λ q. rw q.0 (insert_here at (cell c) (cells_of xs) (cell 0) (omega arith) ∙ sym (ap cell (insert_here at c xs 0 l))))
+      (λ q. insert_after at (cell c) (cells_of xs) k (cell 0) (omega arith) (omega arith) ∙ get_d_tabulate 12 (λ k. cell (get_or xs k 0)) (k - 1) (cell 0) (omega arith) ∙ sym (ap cell (insert_after at c xs k 0 l (omega arith))))
       (eq_cases k at))
       (lt_cases k at)
 
-  cells-insert : take 12 (insert_at at (record { 0 = c }) (cells_of xs)) ≡ cells_of (insert_at at c xs)
+  cells_insert : take 12 (insert_at at (record { 0 = c }) (cells_of xs)) ≡ cells_of (insert_at at c xs)
   unfolding order_record
-  cells-insert =
+  cells_insert =
       let long12 : length (take 12 (insert_at at (cell c) (cells_of xs))) ≡ 12 = length-take-le 12 (insert_at at (cell c) (cells_of xs)) (omega (arith, long)) in
       ext_get_or (cell 0) (take 12 (insert_at at (cell c) (cells_of xs))) (cells_of (insert_at at c xs)) long12
       (λ k g. get_or-take 12 (insert_at at (cell c) (cells_of xs)) k (cell 0) (omega arith) ∙ cell_at k (omega arith) ∙ sym (get_d_tabulate 12 (λ k. cell (get_or (insert_at at c xs) k 0)) k (cell 0) (omega arith)))
@@ -94,12 +94,12 @@ module _ {x : Coordinates} {cells : List Cell} {i : ℕ} (b : Built x cells i) (
   coordinate_low =
       omega (arith, value_low x b.whole b.range (i - 1) (omega (arith, b.small)) (omega (arith, b.low)), b.low)
 
-  order-more : insert_at (i - v) (i + 1) (order_from (coordinate_at x.values) i) ≡ order_from (coordinate_at x.values) (i + 1)
+  order_more : insert_at (i - v) (i + 1) (order_from (coordinate_at x.values) i) ≡ order_from (coordinate_at x.values) (i + 1)
   unfolding order_from
-  order-more = rw (add-one i, at, ← coordinate_at_lem x.values i b.low)
+  order_more = rw (add-one i, at, ← coordinate_at_lem x.values i b.low)
 
-  pub built-more : Built x (take 12 (insert_at (i - v) (record { 0 = i + 1 }) cells)) (i + 1)
-  built-more = record {
+  pub built_more : Built x (take 12 (insert_at (i - v) (record { 0 = i + 1 }) cells)) (i + 1)
+  built_more = record {
     whole = b.whole;
     small = b.small;
     range = b.range;
@@ -107,8 +107,8 @@ module _ {x : Coordinates} {cells : List Cell} {i : ℕ} (b : Built x cells i) (
     left = omega arith;
     sofar =
         rw b.sofar
-        (cells-insert (i - v) (i + 1) (order_from (coordinate_at x.values) i) (omega (arith, (order_is (coordinate_at x.values) i).size)) (omega (arith, (order_is (coordinate_at x.values) i).size, b.small)))
-        ∙ ap cells_of order-more;
+        (cells_insert (i - v) (i + 1) (order_from (coordinate_at x.values) i) (omega (arith, (order_is (coordinate_at x.values) i).size)) (omega (arith, (order_is (coordinate_at x.values) i).size, b.small)))
+        ∙ ap cells_of order_more;
   }
 
 pub built_all : {x : Coordinates} {cells : List Cell} {i : ℕ} → Built x cells i → x.len + 1 ≤ i → record { len = x.len + 1; cells = cells } ≡ order_by_coordinates x

@@ -12,32 +12,32 @@ use Rattle.coordinates.specs.Coordinates.{insert_at}
 use Rattle.order.proofs.Cells.{lt_cases, eq_cases}
 
 module _ {A : Type 0} where
-  pub length-insert : (at : ℕ) (c : A) (xs : List A) → length (insert_at at c xs) ≡ suc (length xs)
-  length-insert zero c xs = refl
-  length-insert (suc at) c [] = refl
-  length-insert (suc at) c (x ∷ xs) = ap suc (length-insert at c xs)
+  pub length_insert : (at : ℕ) (c : A) (xs : List A) → length (insert_at at c xs) ≡ suc (length xs)
+  length_insert zero c xs = refl
+  length_insert (suc at) c [] = refl
+  length_insert (suc at) c (x ∷ xs) = ap suc (length_insert at c xs)
 
-  pub insert-before : (at : ℕ) (c : A) (xs : List A) (k : ℕ) (d : A) → at ≤ length xs → k < at → get_or (insert_at at c xs) k d ≡ get_or xs k d
-  insert-before zero c xs k d h l = absurd (not-suc-le-zero l)
-  insert-before (suc at) c [] k d h l = absurd (not-suc-le-zero h)
-  insert-before (suc at) c (x ∷ xs) zero d h l = refl
-  insert-before (suc at) c (x ∷ xs) (suc k) d h l = insert-before at c xs k d (le_of_suc-le-suc h) (le_of_suc-le-suc l)
+  pub insert_before : (at : ℕ) (c : A) (xs : List A) (k : ℕ) (d : A) → at ≤ length xs → k < at → get_or (insert_at at c xs) k d ≡ get_or xs k d
+  insert_before zero c xs k d h l = absurd (not-suc-le-zero l)
+  insert_before (suc at) c [] k d h l = absurd (not-suc-le-zero h)
+  insert_before (suc at) c (x ∷ xs) zero d h l = refl
+  insert_before (suc at) c (x ∷ xs) (suc k) d h l = insert_before at c xs k d (le_of_suc-le-suc h) (le_of_suc-le-suc l)
 
-  pub insert-here : (at : ℕ) (c : A) (xs : List A) (d : A) → at ≤ length xs → get_or (insert_at at c xs) at d ≡ c
-  insert-here zero c xs d h = refl
-  insert-here (suc at) c [] d h = absurd (not-suc-le-zero h)
-  insert-here (suc at) c (x ∷ xs) d h = insert-here at c xs d (le_of_suc-le-suc h)
+  pub insert_here : (at : ℕ) (c : A) (xs : List A) (d : A) → at ≤ length xs → get_or (insert_at at c xs) at d ≡ c
+  insert_here zero c xs d h = refl
+  insert_here (suc at) c [] d h = absurd (not-suc-le-zero h)
+  insert_here (suc at) c (x ∷ xs) d h = insert_here at c xs d (le_of_suc-le-suc h)
 
-  insert-suc : (at : ℕ) (c : A) (xs : List A) (k : ℕ) (d : A) → at ≤ length xs → at ≤ k → get_or (insert_at at c xs) (suc k) d ≡ get_or xs k d
-  insert-suc zero c xs k d h l = refl
-  insert-suc (suc at) c [] k d h l = absurd (not-suc-le-zero h)
-  insert-suc (suc at) c (x ∷ xs) zero d h l = absurd (not-suc-le-zero l)
-  insert-suc (suc at) c (x ∷ xs) (suc k) d h l = insert-suc at c xs k d (le_of_suc-le-suc h) (le_of_suc-le-suc l)
+  insert_suc : (at : ℕ) (c : A) (xs : List A) (k : ℕ) (d : A) → at ≤ length xs → at ≤ k → get_or (insert_at at c xs) (suc k) d ≡ get_or xs k d
+  insert_suc zero c xs k d h l = refl
+  insert_suc (suc at) c [] k d h l = absurd (not-suc-le-zero h)
+  insert_suc (suc at) c (x ∷ xs) zero d h l = absurd (not-suc-le-zero l)
+  insert_suc (suc at) c (x ∷ xs) (suc k) d h l = insert_suc at c xs k d (le_of_suc-le-suc h) (le_of_suc-le-suc l)
 
-  pub insert-after : (at : ℕ) (c : A) (xs : List A) (k : ℕ) (d : A) → at ≤ length xs → at < k → get_or (insert_at at c xs) k d ≡ get_or xs (k - 1) d
-  insert-after at c xs k d h l =
+  pub insert_after : (at : ℕ) (c : A) (xs : List A) (k : ℕ) (d : A) → at ≤ length xs → at < k → get_or (insert_at at c xs) k d ≡ get_or xs (k - 1) d
+  insert_after at c xs k d h l =
       let e : suc (k - 1) ≡ k = omega arith in
-      rw e at (insert-suc at c xs (k - 1) d h (omega arith))
+      rw e at (insert_suc at c xs (k - 1) d h (omega arith))
 
   -- ---- the loop: the elements from j on have moved up by one
   pub record Moved (d : A) (at : ℕ) (xs ys : List A) (j : ℕ) : Type 0 where
@@ -73,11 +73,11 @@ module _ {A : Type 0} where
       moved_at : (k : ℕ) → k < 12 → get_or (set ys at c) k d ≡ get_or (insert_at at c xs) k d
       moved_at k g =
           ⊎_elim
-          (λ t. get_or-set_other ys at k c d (omega arith) ∙ m.low k (omega (arith, m.down)) ∙ sym (insert-before at c xs k d (omega (arith, m.down, m.top, m.whole)) t.0))
+          (λ t. get_or-set_other ys at k c d (omega arith) ∙ m.low k (omega (arith, m.down)) ∙ sym (insert_before at c xs k d (omega (arith, m.down, m.top, m.whole)) t.0))
           (λ t.
           ⊎_elim
-          (λ q. rw q.0 (get_or-set_same ys at c d (omega (arith, m.down, m.top, m.long)) ∙ sym (insert-here at c xs d (omega (arith, m.down, m.top, m.whole)))))
-          (λ q. get_or-set_other ys at k c d q.0 ∙ m.high k (omega arith) g ∙ sym (insert-after at c xs k d (omega (arith, m.down, m.top, m.whole)) (omega arith)))
+          (λ q. rw q.0 (get_or-set_same ys at c d (omega (arith, m.down, m.top, m.long)) ∙ sym (insert_here at c xs d (omega (arith, m.down, m.top, m.whole)))))
+          (λ q. get_or-set_other ys at k c d q.0 ∙ m.high k (omega arith) g ∙ sym (insert_after at c xs k d (omega (arith, m.down, m.top, m.whole)) (omega arith)))
           (eq_cases k at))
           (lt_cases k at)
 
@@ -85,5 +85,5 @@ module _ {A : Type 0} where
       moved_all =
           let long : length (set ys at c) ≡ 12 = length-set ys at c ∙ m.long in
           ext_get_or d (set ys at c) (take 12 (insert_at at c xs))
-          (long ∙ sym (length-take-le 12 (insert_at at c xs) (omega (arith, length-insert at c xs, m.whole))))
+          (long ∙ sym (length-take-le 12 (insert_at at c xs) (omega (arith, length_insert at c xs, m.whole))))
           (λ k g. moved_at k (omega arith) ∙ sym (get_or-take 12 (insert_at at c xs) k d (omega arith)))

@@ -22,13 +22,13 @@ ranged_none x w = record { whole = w; left = omega arith; same = refl }
 
 module _ {x : Coordinates} {within : Bool} {k : ℕ} (t : RangedTo x within k) where
   -- v is coordinate k + 1, and m the largest that it can be
-  pub ranged-more : k < 11 → {v m : ℕ} → v ≡ get_or x.values k 0 → m ≡ limit x.len (k + 1) → RangedTo x (within && leb v m) (k + 1)
+  pub ranged_more : k < 11 → {v m : ℕ} → v ≡ get_or x.values k 0 → m ≡ limit x.len (k + 1) → RangedTo x (within && leb v m) (k + 1)
   unfolding in_range
-  ranged-more l {v} {m} at top =
+  ranged_more l {v} {m} at top =
       let next : in_range x.len (k + 1) (drop k x.values) ≡ leb v m && in_range x.len (k + 1 + 1) (drop (k + 1) x.values) =
       rw (drop_up x.values k (omega (arith, t.whole)), add-one (k + 1), at, top) in
       record { whole = t.whole; left = omega arith; same = rw (and_assoc, ← next) t.same }
 
-  pub ranged-all : 11 ≤ k → within ≡ in_range x.len 1 x.values
+  pub ranged_all : 11 ≤ k → within ≡ in_range x.len 1 x.values
   unfolding in_range
-  ranged-all l = rw (drop_of_length-le x.values {i = k} (omega (arith, t.whole)), and-true) at t.same
+  ranged_all l = rw (drop_of_length-le x.values {i = k} (omega (arith, t.whole)), and-true) at t.same

@@ -16,15 +16,15 @@ module _ (k at : ℕ) (t xs : List ℕ) where
   abbrev pub Put : List ℕ → ℕ → Type 0
   Put ys end = (end ≡ at + length (in_room k at t xs)) × ((ys ≡ pasted at (in_room k at t xs) xs) × (end ≤ at + k))
 
-  pub none-put : length xs < at + k → Put xs at
-  none-put h = rw (lt-leb (at + k) (length xs) h) (sym (add-zero at), (pasted_none xs at, omega arith))
+  pub none_put : length xs < at + k → Put xs at
+  none_put h = rw (lt-leb (at + k) (length xs) h) (sym (add-zero at), (pasted_none xs at, omega arith))
 
   module _ (h : at + k ≤ length xs) {ys : List ℕ} {end : ℕ} where
-    pub line-put : Puts xs ys at end t → end ≤ at + k → Put ys end
-    line-put p l = rw (le-leb (at + k) (length xs) h) (p.ends, (p.put, l))
+    pub line_put : Puts xs ys at end t → end ≤ at + k → Put ys end
+    line_put p l = rw (le-leb (at + k) (length xs) h) (p.ends, (p.put, l))
 
-    pub put-line : Put ys end → Puts xs ys at end t
-    put-line p =
+    pub put_line_lem : Put ys end → Puts xs ys at end t
+    put_line_lem p =
         let put = rw (le-leb (at + k) (length xs) h) at p in
         let fits : at + length t ≤ length xs = omega (arith, h, put.0, put.1.1) in
         record { fits = fits; put = put.1.0; kept = ap length put.1.0 ∙ length_pasted at t xs fits; ends = put.0 }

@@ -60,11 +60,11 @@ record Shifts (shift : ℕ → ℕ) : Type 0 where
   small : (x : ℕ) → x < 2 ^ 32 → shift x < 2 ^ 32
 
 module _ {shift : ℕ → ℕ} (s : Shifts shift) where
-  stage-small : (x : ℕ) → x < 2 ^ 32 → bit_xor x (shift x) < 2 ^ 32
-  stage-small x l = xor_lt 32 x (shift x) l (s.small x l)
+  stage_small : (x : ℕ) → x < 2 ^ 32 → bit_xor x (shift x) < 2 ^ 32
+  stage_small x l = xor_lt 32 x (shift x) l (s.small x l)
 
-  stage-one-to-one : (x y : ℕ) → x < 2 ^ 32 → y < 2 ^ 32 → bit_xor x (shift x) ≡ bit_xor y (shift y) → x ≡ y
-  stage-one-to-one x y l m e =
+  stage_one_to_one : (x y : ℕ) → x < 2 ^ 32 → y < 2 ^ 32 → bit_xor x (shift x) ≡ bit_xor y (shift y) → x ≡ y
+  stage_one_to_one x y l m e =
       let kept : bit_xor x y ≡ shift (bit_xor x y) =
       xor_across 34 x (shift x) y (shift y) (omega (arith, l, m, s.small x l, s.small y m)) e ∙ sym (s.linear x y) in
       xor_zero x y (s.fixed (bit_xor x y) (xor_lt 32 x y l m) kept)
@@ -96,21 +96,21 @@ right = record { linear = λ x y. xor_shr x y 17; fixed = λ x l e. omega (arith
 
 module _ (x : ℕ) (l : x < 2 ^ 32) where
   first_small : bit_xor x (shifted_left 13 x) < 2 ^ 32
-  first_small = stage-small (left 12) x l
+  first_small = stage_small (left 12) x l
 
-  second-small : let a = bit_xor x (shifted_left 13 x) in bit_xor a (shifted_right 17 a) < 2 ^ 32
-  second-small = stage-small right _ first_small
+  second_small : let a = bit_xor x (shifted_left 13 x) in bit_xor a (shifted_right 17 a) < 2 ^ 32
+  second_small = stage_small right _ first_small
 
   next_small : next_state x < 2 ^ 32
   unfolding next_state
-  next_small = stage-small (left 4) _ second-small
+  next_small = stage_small (left 4) _ second_small
 
 pub one_to_one : (x y : ℕ) → x < 2 ^ 32 → y < 2 ^ 32 → next_state x ≡ next_state y → x ≡ y
 unfolding next_state
 one_to_one x y l m e =
-    let third = stage-one-to-one (left 4) _ _ (second-small x l) (second-small y m) e in
-    let second = stage-one-to-one right _ _ (first_small x l) (first_small y m) third in
-    stage-one-to-one (left 12) x y l m second
+    let third = stage_one_to_one (left 4) _ _ (second_small x l) (second_small y m) e in
+    let second = stage_one_to_one right _ _ (first_small x l) (first_small y m) third in
+    stage_one_to_one (left 12) x y l m second
 
 -- ---- the state never becomes 0
 

@@ -103,8 +103,8 @@ module _ (n : ℕ) (xs : List ℕ) (size : length xs ≡ n) (listed : (c : ℕ) 
       let e : i + suc j ≡ suc (i + j) = omega arith in
       rw e (omega (arith, at_least i j (omega arith), below_suc (suc (i + j)) xs, listed (i + j) (omega arith)))
 
-  pub each-listed : IsOrder n xs
-  each-listed = record {
+  pub each_listed : IsOrder n xs
+  each_listed = record {
     size = size;
     up_to = λ j l.
         let e : j + (n - j) ≡ n = omega arith in
@@ -115,7 +115,7 @@ pub order_true : (n : ℕ) (xs : List ℕ) → is_order n xs ≡ true → IsOrde
 unfolding is_order
 order_true n xs e =
     let t = both (eqb (length xs) n) (each_once n xs) e in
-    each-listed n xs (eqb-true (length xs) n t.0) (λ c l. omega (arith, once n xs t.1 c l))
+    each_listed n xs (eqb-true (length xs) n t.0) (λ c l. omega (arith, once n xs t.1 c l))
 
 pub true_order : (n : ℕ) (xs : List ℕ) → IsOrder n xs → is_order n xs ≡ true
 unfolding is_order

@@ -32,21 +32,21 @@ listing_parts xs len n e =
     record { long = eqb-true len n t.0; order = u.0; clear = u.1 }
 
 module _ (xs : List ℕ) (len n : ℕ) (e : len ≡ n) where
-  pub by-listed : is_order len (take len xs) ≡ true → all_zero (drop len xs) ≡ is_listing n len xs
+  pub by_listed : is_order len (take len xs) ≡ true → all_zero (drop len xs) ≡ is_listing n len xs
   unfolding is_listing
-  by-listed t = rw (eq-eqb len n e, ap (λ (k : ℕ). is_order k (take len xs)) (sym e) ∙ t)
+  by_listed t = rw (eq-eqb len n e, ap (λ (k : ℕ). is_order k (take len xs)) (sym e) ∙ t)
 
   pub not_listed : is_order len (take len xs) ≡ false → false ≡ is_listing n len xs
   unfolding is_listing
   not_listed t = rw (eq-eqb len n e, ap (λ (k : ℕ). is_order k (take len xs)) (sym e) ∙ t)
 
   -- where the numbers are padded, and where they are not
-  pub by-padded : is_padded len xs ≡ true → is_order len (take len xs) ≡ is_listing n len xs
+  pub by_padded : is_padded len xs ≡ true → is_order len (take len xs) ≡ is_listing n len xs
   unfolding is_listing
-  by-padded p = rw (eq-eqb len n e, padded_zeros len xs p, and-true, e) refl
+  by_padded p = rw (eq-eqb len n e, padded_zeros len xs p, and-true, e) refl
 
-  pub not-padded : len ≤ 12 → is_padded len xs ≡ false → false ≡ is_listing n len xs
-  not-padded s p = go (is_listing n len xs) refl
+  pub not_padded : len ≤ 12 → is_padded len xs ≡ false → false ≡ is_listing n len xs
+  not_padded s p = go (is_listing n len xs) refl
     where
       low : IsOrder n (take len xs) → (k : ℕ) → k < len → get_or xs k 0 ≤ 15
       low o k l = omega (arith, order_range n (take len xs) o k (omega arith), get_or-take len xs k 0 l)
@@ -60,19 +60,19 @@ module _ (xs : List ℕ) (len n : ℕ) (e : len ≡ n) where
 -- ---- an order of n cells: n is a size, and the record is a listing of the cells
 
 module _ (n : ℕ) (o : Order) where
-  pub order-parts : is_order_of n o ≡ true → (is_size n ≡ true) × Listing n o.len (cell_numbers o)
+  pub order_parts : is_order_of n o ≡ true → (is_size n ≡ true) × Listing n o.len (cell_numbers o)
   unfolding is_order_of
-  order-parts e =
+  order_parts e =
       let t = both (is_size n) (is_listing n o.len (cell_numbers o)) e in
       (t.0, listing_parts (cell_numbers o) o.len n t.1)
 
-  pub sized-listing : is_size n ≡ true → is_listing n o.len (cell_numbers o) ≡ is_order_of n o
+  pub sized_listing : is_size n ≡ true → is_listing n o.len (cell_numbers o) ≡ is_order_of n o
   unfolding is_order_of
-  sized-listing s = rw s
+  sized_listing s = rw s
 
-  pub not-size : is_size n ≡ false → false ≡ is_order_of n o
+  pub not_size : is_size n ≡ false → false ≡ is_order_of n o
   unfolding is_order_of
-  not-size s = rw s
+  not_size s = rw s
 
   pub other_length : (o.len ≡ n → ⊥) → false ≡ is_order_of n o
   unfolding is_order_of is_listing

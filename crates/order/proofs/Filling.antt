@@ -10,7 +10,7 @@ use lib.Seq.{get_or-take, take_all}
 use Rattle.order.specs.declared.Cell.{Cell}
 use Rattle.order.specs.Cells.{tabulate}
 use Rattle.order.specs.Order.{order_record}
-use Rattle.order.proofs.Tabulate.{tabulate-set}
+use Rattle.order.proofs.Tabulate.{tabulate_set}
 
 -- one number more changes one place
 take_other : (i j : ℕ) (xs : List ℕ) → (j ≡ i → ⊥) → get_or (take i xs) j 0 ≡ get_or (take (suc i) xs) j 0
@@ -39,7 +39,7 @@ module _ {xs : List ℕ} {held : List Cell} {i : ℕ} (f : Filled xs held i) whe
     left = omega arith;
     sofar =
         rw (e, f.sofar, add-one i, ← get_or-take (suc i) xs i 0 (omega arith))
-        (tabulate-set 12 (places_of (take i xs)) (places_of (take (suc i) xs)) i
+        (tabulate_set 12 (places_of (take i xs)) (places_of (take (suc i) xs)) i
         (λ j q. ap (λ (n : ℕ). record { 0 = n }) (take_other i j xs q)));
   }
 

@@ -12,8 +12,8 @@ use lib.Seq.{ext_get_or}
 use lib.Dec.{eqb}
 use borrow.Author.Tests.{eq-eqb}
 use Rattle.order.specs.Cells.{count, place_from, place_of, tabulate}
-use Rattle.order.proofs.Cells.{IsOrder, each-listed, order_count, order_past, order_range, lt_cases, eq_cases, tally-eq, tally-ne}
-use Rattle.order.proofs.Tabulate.{length-tabulate, get_d_tabulate}
+use Rattle.order.proofs.Cells.{IsOrder, each_listed, order_count, order_past, order_range, lt_cases, eq_cases, tally-eq, tally-ne}
+use Rattle.order.proofs.Tabulate.{length_tabulate, get_d_tabulate}
 
 -- ---- places
 
@@ -67,7 +67,7 @@ inverse_to m xs = tabulate m (λ k. place_of xs (suc k))
 
 pub length_inverse : (n : ℕ) (xs : List ℕ) → length (inverse_to n xs) ≡ n
 unfolding inverse_to
-length_inverse n xs = length-tabulate n (λ k. place_of xs (suc k))
+length_inverse n xs = length_tabulate n (λ k. place_of xs (suc k))
 
 pub inverse_at : (n : ℕ) (xs : List ℕ) (k : ℕ) → k < n → get_or (inverse_to n xs) k 0 ≡ place_of xs (suc k)
 unfolding inverse_to
@@ -80,45 +80,45 @@ count_tabulate (suc n) f v (suc k) l e = omega (arith, count_tabulate n (λ j. f
 
 module _ (n : ℕ) (xs : List ℕ) (o : IsOrder n xs) where
   -- the place of the number at i is i + 1
-  pub own-place : (i : ℕ) → i < n → place_of xs (get_or xs i 0) ≡ suc i
+  pub own_place : (i : ℕ) → i < n → place_of xs (get_or xs i 0) ≡ suc i
   unfolding place_of
-  own-place i l =
+  own_place i l =
       let r = order_range n xs o i l in
       let e : suc (get_or xs i 0 - 1) ≡ get_or xs i 0 = omega arith in
       place_at 1 i xs (omega (arith, o.size)) (rw e at (order_count n xs o (get_or xs i 0 - 1) (omega arith))) ∙ omega arith
 
   -- a number above n has no place
-  pub place-past : (k : ℕ) → n ≤ k → place_of xs (suc k) ≡ 0
+  pub place_past : (k : ℕ) → n ≤ k → place_of xs (suc k) ≡ 0
   unfolding place_of
-  place-past k l = place_none 1 (suc k) xs (order_past n xs o k l)
+  place_past k l = place_none 1 (suc k) xs (order_past n xs o k l)
 
   -- a number of 1 to n stands at its place
-  pub cell-stands : (c : ℕ) → 1 ≤ c → c ≤ n → Stands 1 c xs
-  cell-stands c low high =
+  pub cell_stands : (c : ℕ) → 1 ≤ c → c ≤ n → Stands 1 c xs
+  cell_stands c low high =
       let e : suc (c - 1) ≡ c = omega arith in
       stands 1 c xs (omega (arith, rw e at (order_count n xs o (c - 1) (omega arith))))
 
   -- no place is above n
-  pub rank-high : (k : ℕ) → place_of xs (suc k) ≤ n
+  pub rank_high : (k : ℕ) → place_of xs (suc k) ≤ n
   unfolding place_of
-  rank-high k =
-      ⊎_elim (λ t. let s = cell-stands (suc k) (omega arith) t.0 in omega (arith, s.place, s.inside, o.size))
-      (λ t. omega (arith, place-past k t.0))
+  rank_high k =
+      ⊎_elim (λ t. let s = cell_stands (suc k) (omega arith) t.0 in omega (arith, s.place, s.inside, o.size))
+      (λ t. omega (arith, place_past k t.0))
       (lt_cases k n)
 
-  pub inverse-order : IsOrder n (inverse_to n xs)
+  pub inverse_order : IsOrder n (inverse_to n xs)
   unfolding inverse_to
-  inverse-order =
-      each-listed n (inverse_to n xs) (length-tabulate n (λ k. place_of xs (suc k)))
+  inverse_order =
+      each_listed n (inverse_to n xs) (length_tabulate n (λ k. place_of xs (suc k)))
       (λ c l.
       let r = order_range n xs o c l in
       let e : suc (get_or xs c 0 - 1) ≡ get_or xs c 0 = omega arith in
-      count_tabulate n (λ k. place_of xs (suc k)) (suc c) (get_or xs c 0 - 1) (omega arith) (rw e (own-place c l)))
+      count_tabulate n (λ k. place_of xs (suc k)) (suc c) (get_or xs c 0 - 1) (omega arith) (rw e (own_place c l)))
 
 -- a list whose inverse is an order is one
 pub order_inverse : (n : ℕ) (xs : List ℕ) → length xs ≡ n → IsOrder n (inverse_to n xs) → IsOrder n xs
 unfolding inverse_to place_of
-order_inverse n xs s o = each-listed n xs s listed
+order_inverse n xs s o = each_listed n xs s listed
   where
     listed : (c : ℕ) → c < n → 1 ≤ count (suc c) xs
     listed c l =
@@ -140,5 +140,5 @@ inverse_inverse n xs o =
     at j l =
         let r = order_range n xs o j l in
         let e : suc (get_or xs j 0 - 1) ≡ get_or xs j 0 = omega arith in
-        let v : get_or (inverse_to n xs) (get_or xs j 0 - 1) 0 ≡ suc j = inverse_at n xs (get_or xs j 0 - 1) (omega arith) ∙ rw e (own-place n xs o j l) in
-        inverse_at n (inverse_to n xs) j l ∙ ap (place_of (inverse_to n xs)) (sym v) ∙ own-place n (inverse_to n xs) (inverse-order n xs o) (get_or xs j 0 - 1) (omega arith) ∙ e
+        let v : get_or (inverse_to n xs) (get_or xs j 0 - 1) 0 ≡ suc j = inverse_at n xs (get_or xs j 0 - 1) (omega arith) ∙ rw e (own_place n xs o j l) in
+        inverse_at n (inverse_to n xs) j l ∙ ap (place_of (inverse_to n xs)) (sym v) ∙ own_place n (inverse_to n xs) (inverse_order n xs o) (get_or xs j 0 - 1) (omega arith) ∙ e

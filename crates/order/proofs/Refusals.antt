@@ -73,13 +73,13 @@ refused_zeros r result zeros = picked_zeros (refusal_number r) result zeros (not
 
 -- the first check decides where it does not hold, the later ones where it does, and none refuses
 module _ (r : Refusal) (later : List (Bool × Refusal)) {b : Bool} where
-  pub check-fails : b ≡ false → number_of ((b, r) ∷ later) ≡ refusal_number r
+  pub check_fails : b ≡ false → number_of ((b, r) ∷ later) ≡ refusal_number r
   unfolding number_of
-  check-fails e = rw e
+  check_fails e = rw e
 
-  pub check-holds : b ≡ true → number_of ((b, r) ∷ later) ≡ number_of later
+  pub check_holds : b ≡ true → number_of ((b, r) ∷ later) ≡ number_of later
   unfolding number_of
-  check-holds e = rw e
+  check_holds e = rw e
 
 pub all_hold : number_of [] ≡ 0
 unfolding number_of
@@ -93,20 +93,20 @@ check_held false r later e = absurd (not-zero r e)
 
 -- of checks that come first and checks that come later, the first decide where one of them refuses, the later where none does
 module _ (later : List (Bool × Refusal)) where
-  pub later-decide : (first : List (Bool × Refusal)) → number_of first ≡ 0 → number_of (first ++ later) ≡ number_of later
+  pub later_decide : (first : List (Bool × Refusal)) → number_of first ≡ 0 → number_of (first ++ later) ≡ number_of later
   unfolding number_of
-  later-decide [] e = refl
-  later-decide ((true, r) ∷ first) e = later-decide first e
-  later-decide ((false, r) ∷ first) e = absurd (not-zero r e)
+  later_decide [] e = refl
+  later_decide ((true, r) ∷ first) e = later_decide first e
+  later_decide ((false, r) ∷ first) e = absurd (not-zero r e)
 
-  pub first-decide : (first : List (Bool × Refusal)) → (number_of first ≡ 0 → ⊥) → number_of (first ++ later) ≡ number_of first
+  pub first_decide : (first : List (Bool × Refusal)) → (number_of first ≡ 0 → ⊥) → number_of (first ++ later) ≡ number_of first
   unfolding number_of
-  first-decide [] f = absurd (f refl)
-  first-decide ((true, r) ∷ first) f = first-decide first f
-  first-decide ((false, r) ∷ first) f = refl
+  first_decide [] f = absurd (f refl)
+  first_decide ((true, r) ∷ first) f = first_decide first f
+  first_decide ((false, r) ∷ first) f = refl
 
-  pub refused-first : (first : List (Bool × Refusal)) (r : Refusal) → number_of first ≡ refusal_number r → number_of (first ++ later) ≡ refusal_number r
-  refused-first first r e = first-decide first (λ z. not-zero r (sym e ∙ z)) ∙ e
+  pub refused_first : (first : List (Bool × Refusal)) (r : Refusal) → number_of first ≡ refusal_number r → number_of (first ++ later) ≡ refusal_number r
+  refused_first first r e = first_decide first (λ z. not-zero r (sym e ∙ z)) ∙ e
 
   pub all_held : (first : List (Bool × Refusal)) → number_of (first ++ later) ≡ 0 → (number_of first ≡ 0) × (number_of later ≡ 0)
   unfolding number_of
@@ -115,23 +115,23 @@ module _ (later : List (Bool × Refusal)) where
   all_held ((false, r) ∷ first) e = absurd (not-zero r e)
 
   -- the outcome of the first checks, passed on as that of all
-  pub outcome-first : (first : List (Bool × Refusal)) {o : Outcome} {r : Refusal} → outcome_number o ≡ number_of first → o ≡ Refused r → outcome_number o ≡ number_of (first ++ later)
-  outcome-first first {r = r} e d = ap outcome_number d ∙ sym (refused-first first r (sym e ∙ ap outcome_number d))
+  pub outcome_first : (first : List (Bool × Refusal)) {o : Outcome} {r : Refusal} → outcome_number o ≡ number_of first → o ≡ Refused r → outcome_number o ≡ number_of (first ++ later)
+  outcome_first first {r = r} e d = ap outcome_number d ∙ sym (refused_first first r (sym e ∙ ap outcome_number d))
 
 -- ---- answers
 
 module _ {A : Type 0} (checks : List (Bool × Refusal)) (result zeros : A) where
-  pub told-done : number_of checks ≡ 0 → record { number = 0; value = result } ≡ answer checks result zeros
+  pub told_done : number_of checks ≡ 0 → record { number = 0; value = result } ≡ answer checks result zeros
   unfolding answer
-  told-done e = rw e
+  told_done e = rw e
 
-  pub told-refused : (r : Refusal) → number_of checks ≡ refusal_number r → record { number = refusal_number r; value = zeros } ≡ answer checks result zeros
+  pub told_refused : (r : Refusal) → number_of checks ≡ refusal_number r → record { number = refusal_number r; value = zeros } ≡ answer checks result zeros
   unfolding answer
-  told-refused r e = rw (e, refused_zeros r result zeros)
+  told_refused r e = rw (e, refused_zeros r result zeros)
 
   -- an outcome of the same checks, passed on
   pub passed_on : (o : Outcome) → outcome_number o ≡ number_of checks → (r : Refusal) → o ≡ Refused r → record { number = outcome_number o; value = zeros } ≡ answer checks result zeros
-  passed_on o e r d = rw d (told-refused r (sym e ∙ ap outcome_number d))
+  passed_on o e r d = rw d (told_refused r (sym e ∙ ap outcome_number d))
 
 pub accepted : {o : Outcome} {k : ℕ} → outcome_number o ≡ k → o ≡ Done → k ≡ 0
 accepted e d = sym e ∙ ap outcome_number d
@@ -152,7 +152,7 @@ size_in n l h = rw (le-leb 3 n l, le-leb n 12 h)
 
 -- a size and one more check: that they hold, and what they tell
 pub sized_holds : (n : ℕ) (b : Bool) (r : Refusal) → 3 ≤ n → n ≤ 12 → b ≡ true → number_of ((is_size n, Size) ∷ (b, r) ∷ []) ≡ 0
-sized_holds n b r l h e = check-holds _ _ (size_in n l h) ∙ check-holds _ _ e ∙ all_hold
+sized_holds n b r l h e = check_holds _ _ (size_in n l h) ∙ check_holds _ _ e ∙ all_hold
 
 pub sized_done : (n : ℕ) (b : Bool) (r : Refusal) → number_of ((is_size n, Size) ∷ (b, r) ∷ []) ≡ 0 → (3 ≤ n) × (n ≤ 12) × (b ≡ true)
 sized_done n b r e =

@@ -46,18 +46,18 @@ padded_none xs len w s = let e : len - 0 ≡ len = omega arith in record { whole
 
 module _ {xs : List ℕ} {len over i : ℕ} (t : PaddedTo xs len over i) where
   module _ (l : i < 12) {x : ℕ} (at : x ≡ get_or xs i 0) (byte : x < 256) {y : ℕ} (row : y ≡ get_or spares (12 - len + i) 0) where
-    met-spare : y ≡ cond (ltb i len) 240 255
-    met-spare = row ∙ row_at 240 255 len i t.small l
+    met_spare : y ≡ cond (ltb i len) 240 255
+    met_spare = row ∙ row_at 240 255 len i t.small l
 
-    listed-step : i < len → is_padded (len - i) (drop i xs) ≡ leb x 15 && is_padded (len - (i + 1)) (drop (i + 1) xs)
+    listed_step : i < len → is_padded (len - i) (drop i xs) ≡ leb x 15 && is_padded (len - (i + 1)) (drop (i + 1) xs)
     unfolding is_padded
-    listed-step h =
+    listed_step h =
         let e : len - i ≡ suc (len - (i + 1)) = omega arith in
         rw (e, drop_up xs i (omega (arith, t.whole)), at)
 
-    past-step : len ≤ i → is_padded (len - i) (drop i xs) ≡ leb x 0 && is_padded (len - (i + 1)) (drop (i + 1) xs)
+    past_step : len ≤ i → is_padded (len - i) (drop i xs) ≡ leb x 0 && is_padded (len - (i + 1)) (drop (i + 1) xs)
     unfolding is_padded all_zero
-    past-step h =
+    past_step h =
         let e : len - i ≡ 0 = omega arith in
         let e' : len - (i + 1) ≡ 0 = omega arith in
         rw (e, e', drop_up xs i (omega (arith, t.whole)), at, zero_test (get_or xs i 0))
@@ -65,16 +65,16 @@ module _ {xs : List ℕ} {len over i : ℕ} (t : PaddedTo xs len over i) where
     gathered : leb (bit_or over (bit_and x y)) 0 && is_padded (len - (i + 1)) (drop (i + 1) xs) ≡ leb over 0 && is_padded (len - i) (drop i xs)
     gathered =
         ⊎_elim
-        (λ h. gather over (bit_and x y) (high_zero 4 4 x (met-spare ∙ rw h.1) byte) _ ∙ ap (λ (b : Bool). leb over 0 && b) (sym (listed-step h.0)))
-        (λ h. gather over (bit_and x y) (high_zero 8 0 x (met-spare ∙ rw h.1) byte) _ ∙ ap (λ (b : Bool). leb over 0 && b) (sym (past-step h.0)))
+        (λ h. gather over (bit_and x y) (high_zero 4 4 x (met_spare ∙ rw h.1) byte) _ ∙ ap (λ (b : Bool). leb over 0 && b) (sym (listed_step h.0)))
+        (λ h. gather over (bit_and x y) (high_zero 8 0 x (met_spare ∙ rw h.1) byte) _ ∙ ap (λ (b : Bool). leb over 0 && b) (sym (past_step h.0)))
         (lt_cases i len)
 
-    pub padded-more : PaddedTo xs len (bit_or over (bit_and x y)) (i + 1)
-    padded-more = record { whole = t.whole; small = t.small; left = omega arith; same = gathered ∙ t.same }
+    pub padded_more : PaddedTo xs len (bit_or over (bit_and x y)) (i + 1)
+    padded_more = record { whole = t.whole; small = t.small; left = omega arith; same = gathered ∙ t.same }
 
-  pub padded-end : 12 ≤ i → eqb over 0 ≡ is_padded len xs
+  pub padded_end : 12 ≤ i → eqb over 0 ≡ is_padded len xs
   unfolding is_padded all_zero
-  padded-end l =
+  padded_end l =
       let e : len - i ≡ 0 = omega (arith, t.small) in
       zero_test over ∙ sym (ap (λ (b : Bool). leb over 0 && b) (rw (e, drop_of_length-le xs {i = i} (omega (arith, t.whole)))) ∙ and-true (leb over 0)) ∙ t.same
 

@@ -27,16 +27,16 @@ module _ (test : ℕ → Bool) where
 
 module _ (number : ℕ → ℕ) where
   -- none of so many refuses, nor the next one
-  pub none-next : (k : ℕ) → first_refusing k number ≡ 0 → number (suc k) ≡ 0 → first_refusing (suc k) number ≡ 0
+  pub none_next : (k : ℕ) → first_refusing k number ≡ 0 → number (suc k) ≡ 0 → first_refusing (suc k) number ≡ 0
   unfolding first_refusing
-  none-next k e z = rw (e, z)
+  none_next k e z = rw (e, z)
 
   -- none of so many refuses, and the next one does: it is the first, of however many
-  pub first-at : (n k : ℕ) → k < n → first_refusing k number ≡ 0 → (number (suc k) ≡ 0 → ⊥) → first_refusing n number ≡ suc k
+  pub first_at : (n k : ℕ) → k < n → first_refusing k number ≡ 0 → (number (suc k) ≡ 0 → ⊥) → first_refusing n number ≡ suc k
   unfolding first_refusing
-  first-at zero k l e r = absurd (omega arith)
-  first-at (suc n) k l e r =
+  first_at zero k l e r = absurd (omega arith)
+  first_at (suc n) k l e r =
       ⊎_elim
-      (λ m. rw (first-at n k m e r))
+      (λ m. rw (first_at n k m e r))
       (λ d. rw (← d, e) (picked_zeros (number (suc k)) 0 (suc k) r))
       (below_or_last k n l)

@@ -17,30 +17,30 @@ use Rattle.plain_machine.specs.Machine.{apply_of}
 use Rattle.rivals.specs.Rivals.{is_worn_or_spent, after, pulses_of}
 use Rattle.page.specs.declared.Page.{Page}
 use Rattle.page.specs.Groups.{all_of}
-use Rattle.page.specs.Pages.{group_at, like_first, is_page}
+use Rattle.page.specs.Pages.{group_at_lem, like_first, is_page}
 use Rattle.page_store.specs.StoreAnswer.{symbol_at, takes, number_stored, AfterStore, store_page_of}
 use Rattle.page_laws.specs.PageLists.{PageCall, on_group, store_page, read_page, PageMachine, among, stands, HoldsGroups, page_step, own_call, after_calls, pulses_of_calls, calls_of, PageDemand3, MeetsPageDemand3}
-use Rattle.page_laws.proofs.Groups.{among_below, of_among, all_same, total-same, FirstAt, first-not}
-use Rattle.page_laws.proofs.Steps.{Answered, no-page, done, refused, answered}
-use Rattle.page_laws.proofs.PageDemand3.{page-claim}
+use Rattle.page_laws.proofs.Groups.{among_below, of_among, all_same, total_same, FirstAt, first_not}
+use Rattle.page_laws.proofs.Steps.{Answered, no_page, done, refused, answered}
+use Rattle.page_laws.proofs.PageDemand3.{page_claim}
 use Rattle.page_laws.proofs.Holds.{holds_after}
 
 -- as many groups, and the same
 pub record SameGroups (p q : Page) : Type 0 where
   pub count : p.count ≡ q.count
-  pub groups : (k : ℕ) → among q.count k ≡ true → group_at p k ≡ group_at q k
+  pub groups : (k : ℕ) → among q.count k ≡ true → group_at_lem p k ≡ group_at_lem q k
 
 module _ {p q : Page} (s : SameGroups p q) where
   holds_same : HoldsGroups q → HoldsGroups p
   holds_same h = rw s.count (λ k e. rw (s.groups k e) (h k e))
 
-  page-same : is_page p ≡ is_page q
+  page_same : is_page p ≡ is_page q
   unfolding is_page like_first
-  page-same =
+  page_same =
       rw s.count
       (go q.count (λ i l. s.groups (suc i) (among_below q.count i l)))
     where
-      go : (c : ℕ) → ((i : ℕ) → i < c → group_at p (suc i) ≡ group_at q (suc i))
+      go : (c : ℕ) → ((i : ℕ) → i < c → group_at_lem p (suc i) ≡ group_at_lem q (suc i))
           → (leb 1 c && (leb c 8 && all_of c (like_first p))) ≡ (leb 1 c && (leb c 8 && all_of c (like_first q)))
       go zero f = refl
       go (suc c) f = rw (all_same (like_first p) (like_first q) (suc c) (λ i l. rw (f i l, f 0 (omega arith))))
@@ -48,7 +48,7 @@ module _ {p q : Page} (s : SameGroups p q) where
   module _ (ss : List ℕ) where
     takes_same : takes p ss ≡ takes q ss
     unfolding takes
-    takes_same = rw (page-same, s.count)
+    takes_same = rw (page_same, s.count)
 
     number_same : (k : ℕ) → among q.count k ≡ true → number_stored p ss k ≡ number_stored q ss k
     unfolding number_stored
@@ -72,19 +72,19 @@ module _ (store : PageMachine) (meets : MeetsPageDemand3 store) where
         of_among (suc i - 1) (λ j. number_stored p ss j ≡ 0)
         (λ j l.
         let m : j < i = omega arith in
-        number_same s ss (suc j) (among_below q.count j (omega (arith, a.below))) ∙ first-not (number_stored q ss) i a.before j m)
+        number_same s ss (suc j) (among_below q.count j (omega (arith, a.below))) ∙ first_not (number_stored q ss) i a.before j m)
 
     all : ((i : ℕ) → i < q.count → number_stored q ss (suc i) ≡ 0) → (k : ℕ) → among p.count k ≡ true → number_stored p ss k ≡ 0
     all f k m =
         let inside : among q.count k ≡ true = ap (λ (c : ℕ). among c k) (sym s.count) ∙ m in
         number_same s ss k inside ∙ of_among q.count (λ j. number_stored q ss j ≡ 0) f k inside
 
-    same-told : (theirs.number ≡ ours.number) × (ours.number ≢ 0 → theirs.value.group ≡ ours.value.group)
+    same_told : (theirs.number ≡ ours.number) × (ours.number ≢ 0 → theirs.value.group ≡ ours.value.group)
     unfolding after_calls
-    same-told = go (answered q ss)
+    same_told = go (answered q ss)
       where
         go : Answered q ss → (theirs.number ≡ ours.number) × (ours.number ≢ 0 → theirs.value.group ≡ ours.value.group)
-        go (no-page t e) = let x = claim.no-page ss (takes_same s ss ∙ t) in rw e (x.0, λ r. x.1)
+        go (no_page t e) = let x = claim.no_page ss (takes_same s ss ∙ t) in rw e (x.0, λ r. x.1)
         go (done t f e) =
             rw e (
               (claim.accepted ss).1 (takes_same s ss ∙ t, all f),
@@ -92,12 +92,12 @@ module _ (store : PageMachine) (meets : MeetsPageDemand3 store) where
             )
         go (refused t i a e) =
             let inside = among_below q.count i a.below in
-            let x = claim.first-refuses ss (suc i) (takes_same s ss ∙ t) (ap (λ (c : ℕ). among c (suc i)) s.count ∙ inside) (λ z. a.refuses (sym (number_same s ss (suc i) inside) ∙ z)) (before i a) in
+            let x = claim.first_refuses ss (suc i) (takes_same s ss ∙ t) (ap (λ (c : ℕ). among c (suc i)) s.count ∙ inside) (λ z. a.refuses (sym (number_same s ss (suc i) inside) ∙ z)) (before i a) in
             rw e (x.0 ∙ number_same s ss (suc i) inside, λ r. x.1)
 
     stands_same : (k : ℕ) → stands theirs k ≡ stands ours k
     unfolding stands
-    stands_same k = let t = same-told in rw t.0 (go ours.number t.1)
+    stands_same k = let t = same_told in rw t.0 (go ours.number t.1)
       where
         go : (m : ℕ) → (m ≢ 0 → theirs.value.group ≡ ours.value.group)
             → if_done m true (is_worn_or_spent m && eqb theirs.value.group k) ≡ if_done m true (is_worn_or_spent m && eqb ours.value.group k)
@@ -117,7 +117,7 @@ module _ (store : PageMachine) (meets : MeetsPageDemand3 store) where
     unfolding after_calls calls_of
     step_same c =
         let t = meets p (holds_same s h) (c ∷ []) in
-        let o = page-claim q h (c ∷ []) in
+        let o = page_claim q h (c ∷ []) in
         record {
           count = t.as_many ∙ s.count ∙ sym o.as_many;
           groups =
@@ -139,27 +139,27 @@ module _ (store : PageMachine) (meets : MeetsPageDemand3 store) where
     now = after_calls store_page_of p cs
 
     -- the lists of calls of the groups
-    pub same-calls : (k : ℕ) → calls_of store k p cs ≡ calls_of store_page_of k p cs
-    same-calls k = calls_same cs (record { count = refl; groups = λ k e. refl }) h k
+    pub same_calls : (k : ℕ) → calls_of store k p cs ≡ calls_of store_page_of k p cs
+    same_calls k = calls_same cs (record { count = refl; groups = λ k e. refl }) h k
 
-    pub same-page : SameGroups (after_calls store p cs) now
-    same-page =
+    pub same_page : SameGroups (after_calls store p cs) now
+    same_page =
         let t = meets p h cs in
-        let o = page-claim p h cs in
+        let o = page_claim p h cs in
         record {
           count = t.as_many ∙ sym o.as_many;
           groups =
               λ k e.
               let inside : among p.count k ≡ true = ap (λ (n : ℕ). among n k) (sym o.as_many) ∙ e in
-              t.groups k inside ∙ ap (after apply_of (group_at p k)) (same-calls k) ∙ sym (o.groups k inside);
+              t.groups k inside ∙ ap (after apply_of (group_at_lem p k)) (same_calls k) ∙ sym (o.groups k inside);
         }
 
-    pub same-pulses : pulses_of_calls store p cs ≡ pulses_of_calls store_page_of p cs
-    same-pulses =
+    pub same_pulses : pulses_of_calls store p cs ≡ pulses_of_calls store_page_of p cs
+    same_pulses =
         (meets p h cs).pulses
-        ∙ total-same _ _ p.count (λ i l. ap (pulses_of apply_of (group_at p (suc i))) (same-calls (suc i)))
-        ∙ sym (page-claim p h cs).pulses
+        ∙ total_same _ _ p.count (λ i l. ap (pulses_of apply_of (group_at_lem p (suc i))) (same_calls (suc i)))
+        ∙ sym (page_claim p h cs).pulses
 
     pub same_answer : (ss : List ℕ) → let t = store (after_calls store p cs) ss in let o = store_page_of now ss in
         (t.number ≡ o.number) × (o.number ≢ 0 → t.value.group ≡ o.value.group)
-    same_answer ss = same-told same-page (holds_after p h cs) ss
+    same_answer ss = same_told same_page (holds_after p h cs) ss

@@ -12,7 +12,7 @@ use lib.Seq.{get_or-set_same, get_or-set_other}
 use borrow.Author.Tests.{leb-true, le-leb}
 use Rattle.order.proofs.Cells.{both}
 use Rattle.page.specs.Groups.{total, all_of, put_each, first_refusing}
-use Rattle.page.proofs.Groups.{below_or_last, none-next, first-at}
+use Rattle.page.proofs.Groups.{below_or_last, none_next, first_at}
 use Rattle.page_laws.specs.PageLists.{among}
 
 -- ---- a number from 1 to n
@@ -31,30 +31,30 @@ of_among n P h (suc i) e = h i (among_true n i e)
 -- ---- sums
 
 module _ (f g : ℕ → ℕ) where
-  pub total-same : (n : ℕ) → ((k : ℕ) → k < n → f (suc k) ≡ g (suc k)) → total n f ≡ total n g
+  pub total_same : (n : ℕ) → ((k : ℕ) → k < n → f (suc k) ≡ g (suc k)) → total n f ≡ total n g
   unfolding total
-  total-same zero h = refl
-  total-same (suc n) h = omega (arith, total-same n (λ k l. h k (omega arith)), h n (omega arith))
+  total_same zero h = refl
+  total_same (suc n) h = omega (arith, total_same n (λ k l. h k (omega arith)), h n (omega arith))
 
-  pub total-plus : (n : ℕ) → total n (λ k. f k + g k) ≡ total n f + total n g
+  pub total_plus : (n : ℕ) → total n (λ k. f k + g k) ≡ total n f + total n g
   unfolding total
-  total-plus zero = refl
-  total-plus (suc n) = omega (arith, total-plus n)
+  total_plus zero = refl
+  total_plus (suc n) = omega (arith, total_plus n)
 
 module _ (f : ℕ → ℕ) where
-  pub total-none : (n : ℕ) → ((k : ℕ) → k < n → f (suc k) ≡ 0) → total n f ≡ 0
+  pub total_none : (n : ℕ) → ((k : ℕ) → k < n → f (suc k) ≡ 0) → total n f ≡ 0
   unfolding total
-  total-none zero h = refl
-  total-none (suc n) h = omega (arith, total-none n (λ k l. h k (omega arith)), h n (omega arith))
+  total_none zero h = refl
+  total_none (suc n) h = omega (arith, total_none n (λ k l. h k (omega arith)), h n (omega arith))
 
   -- one group alone
-  pub total-one : (n j : ℕ) → j < n → ((k : ℕ) → k < n → (k ≡ j → ⊥) → f (suc k) ≡ 0) → total n f ≡ f (suc j)
+  pub total_one : (n j : ℕ) → j < n → ((k : ℕ) → k < n → (k ≡ j → ⊥) → f (suc k) ≡ 0) → total n f ≡ f (suc j)
   unfolding total
-  total-one zero j l h = absurd (omega arith)
-  total-one (suc n) j l h =
+  total_one zero j l h = absurd (omega arith)
+  total_one (suc n) j l h =
       ⊎_elim
-      (λ m. omega (arith, total-one n j m (λ k b. h k (omega arith)), h n (omega arith) (λ e. absurd (omega arith))))
-      (λ e. rw e (omega (arith, total-none n (λ k b. h k (omega arith) (λ d. absurd (omega arith))))))
+      (λ m. omega (arith, total_one n j m (λ k b. h k (omega arith)), h n (omega arith) (λ e. absurd (omega arith))))
+      (λ e. rw e (omega (arith, total_none n (λ k b. h k (omega arith) (λ d. absurd (omega arith))))))
       (below_or_last j n l)
 
 -- ---- tests
@@ -72,18 +72,18 @@ all_same f g (suc n) h = rw (all_same f g n (λ k l. h k (omega arith)), h n (om
 -- ---- places
 
 module _ {A : Type 0} (f : ℕ → A) (xs : List A) where
-  pub length-put : (n : ℕ) → length (put_each n f xs) ≡ length xs
+  pub length_put : (n : ℕ) → length (put_each n f xs) ≡ length xs
   unfolding put_each
-  length-put zero = refl
-  length-put (suc n) = length-set (put_each n f xs) n (f (suc n)) ∙ length-put n
+  length_put zero = refl
+  length_put (suc n) = length-set (put_each n f xs) n (f (suc n)) ∙ length_put n
 
-  pub put-at : (d : A) (n k : ℕ) → n ≤ length xs → k < n → get_or (put_each n f xs) k d ≡ f (suc k)
+  pub put_at : (d : A) (n k : ℕ) → n ≤ length xs → k < n → get_or (put_each n f xs) k d ≡ f (suc k)
   unfolding put_each
-  put-at d zero k h l = absurd (omega arith)
-  put-at d (suc n) k h l =
+  put_at d zero k h l = absurd (omega arith)
+  put_at d (suc n) k h l =
       ⊎_elim
-      (λ m. get_or-set_other (put_each n f xs) n k (f (suc n)) d (λ e. absurd (omega arith)) ∙ put-at d n k (omega arith) m)
-      (λ e. rw e (get_or-set_same (put_each n f xs) n (f (suc n)) d (omega (arith, length-put n))))
+      (λ m. get_or-set_other (put_each n f xs) n k (f (suc n)) d (λ e. absurd (omega arith)) ∙ put_at d n k (omega arith) m)
+      (λ e. rw e (get_or-set_same (put_each n f xs) n (f (suc n)) d (omega (arith, length_put n))))
       (below_or_last k n l)
 
 pub put_same : {A : Type 0} (f g : ℕ → A) (xs : List A) (n : ℕ) → ((k : ℕ) → k < n → f (suc k) ≡ g (suc k)) → put_each n f xs ≡ put_each n g xs
@@ -94,10 +94,10 @@ put_same f g xs (suc n) h = rw (put_same f g xs n (λ k l. h k (omega arith)), h
 -- ---- the first group that refuses
 
 module _ (number : ℕ → ℕ) where
-  pub no-first : (n : ℕ) → ((k : ℕ) → k < n → number (suc k) ≡ 0) → first_refusing n number ≡ 0
+  pub no_first : (n : ℕ) → ((k : ℕ) → k < n → number (suc k) ≡ 0) → first_refusing n number ≡ 0
   unfolding first_refusing
-  no-first zero h = refl
-  no-first (suc n) h = none-next number n (no-first n (λ k l. h k (omega arith))) (h n (omega arith))
+  no_first zero h = refl
+  no_first (suc n) h = none_next number n (no_first n (λ k l. h k (omega arith))) (h n (omega arith))
 
   -- of n groups, group k + 1 is the first that refuses
   pub record FirstAt (n k : ℕ) : Type 0 where
@@ -106,21 +106,21 @@ module _ (number : ℕ → ℕ) where
     pub refuses : number (suc k) ≢ 0
 
   -- no group refuses, or there is a first that does
-  pub none-or-first : (n : ℕ) → ((k : ℕ) → k < n → number (suc k) ≡ 0) ⊎ ((k : ℕ) × FirstAt n k)
-  none-or-first zero = inl (λ k l. absurd (omega arith))
-  none-or-first (suc n) =
+  pub none_or_first : (n : ℕ) → ((k : ℕ) → k < n → number (suc k) ≡ 0) ⊎ ((k : ℕ) × FirstAt n k)
+  none_or_first zero = inl (λ k l. absurd (omega arith))
+  none_or_first (suc n) =
       ⊎_elim
       (λ h. go h (number (suc n)) refl)
       (λ t. let (k, a) = t in inr (k, record { below = omega (arith, a.below); before = a.before; refuses = a.refuses }))
-      (none-or-first n)
+      (none_or_first n)
     where
       go : ((k : ℕ) → k < n → number (suc k) ≡ 0) → (m : ℕ) → number (suc n) ≡ m → ((k : ℕ) → k < suc n → number (suc k) ≡ 0) ⊎ ((k : ℕ) × FirstAt (suc n) k)
       go h zero z = inl (λ k l. ⊎_elim (h k) (λ d. rw d z) (below_or_last k n l))
-      go h (suc m) z = inr (n, record { below = omega arith; before = no-first n h; refuses = λ d. absurd (omega arith) })
+      go h (suc m) z = inr (n, record { below = omega arith; before = no_first n h; refuses = λ d. absurd (omega arith) })
 
-  pub first-not : (n : ℕ) → first_refusing n number ≡ 0 → (k : ℕ) → k < n → number (suc k) ≡ 0
-  first-not n e k l =
+  pub first_not : (n : ℕ) → first_refusing n number ≡ 0 → (k : ℕ) → k < n → number (suc k) ≡ 0
+  first_not n e k l =
       ⊎_elim
       (λ h. h k l)
-      (λ t. let (j, a) = t in absurd (omega (arith, first-at number n j a.below a.before a.refuses)))
-      (none-or-first n)
+      (λ t. let (j, a) = t in absurd (omega (arith, first_at number n j a.below a.before a.refuses)))
+      (none_or_first n)

@@ -18,12 +18,12 @@ use Rattle.rivals.specs.Rivals.{is_worn_or_spent, after, pulses_of, plain, Raisa
 use Rattle.rivals.proofs.Demand3.{group_after_lem, demand3}
 use Rattle.page.specs.declared.Page.{Page}
 use Rattle.page.specs.Groups.{total}
-use Rattle.page.specs.Pages.{group_at}
+use Rattle.page.specs.Pages.{group_at_lem}
 use Rattle.page_store.specs.StoreAnswer.{symbol_at, takes, AfterStore, number_stored, store_page_of}
 use Rattle.page_store.proofs.Storing.{store_not}
 use Rattle.page_laws.specs.PageLists.{PageCall, store_page, among, store_call, HoldsGroups, page_step, own_call, after_calls, pulses_of_calls, calls_of, PageDemand3, MeetsPageDemand3}
-use Rattle.page_laws.proofs.Groups.{among_true, among_below, of_among, total-same, total-plus, total-none, FirstAt, no-first, first-not}
-use Rattle.page_laws.proofs.Steps.{room, Answered, no-page, done, refused, answered, store-call-number, first-refused, step_count, step_length, through, kept, through-stands, stuck-stands, other-not, not-stands, own-stands, own-not, stuck-first, stuck-store, rival_stays, no_calls, group-by-call, group-step, pulses-step}
+use Rattle.page_laws.proofs.Groups.{among_true, among_below, of_among, total_same, total_plus, total_none, FirstAt, no_first, first_not}
+use Rattle.page_laws.proofs.Steps.{room, Answered, no_page, done, refused, answered, store_call_number, first_refused, step_count, step_length, through, kept, through_stands, stuck_stands, other_not, not_stands, own_stands, own_not, stuck_first, stuck_store, rival_stays, no_calls, group_by_call, group_step, pulses_step}
 
 -- ---- lists of calls on one group, one after the other
 
@@ -68,29 +68,29 @@ room_after p [] r = r
 room_after p (c ∷ cs) r = room_after (stepped p c) cs (omega (arith, step_count p c, step_length p c))
 
 pub groups_after : (p : Page) (cs : List PageCall) → p.count ≤ length p.groups → (i : ℕ) → i < p.count
-    → group_at (after_calls store_page_of p cs) (suc i) ≡ after apply_of (group_at p (suc i)) (calls (suc i) p cs)
+    → group_at_lem (after_calls store_page_of p cs) (suc i) ≡ after apply_of (group_at_lem p (suc i)) (calls (suc i) p cs)
 unfolding after_calls calls_of after
 groups_after p [] r i l = refl
 groups_after p (c ∷ cs) r i l =
     groups_after (stepped p c) cs (omega (arith, step_count p c, step_length p c)) i (omega (arith, step_count p c))
-    ∙ ap (λ (g : Group). after apply_of g (calls (suc i) (stepped p c) cs)) (group-step p r c i l)
-    ∙ sym (after_append (group_at p (suc i)) (own_call store_page_of (suc i) p c) (calls (suc i) (stepped p c) cs))
+    ∙ ap (λ (g : Group). after apply_of g (calls (suc i) (stepped p c) cs)) (group_step p r c i l)
+    ∙ sym (after_append (group_at_lem p (suc i)) (own_call store_page_of (suc i) p c) (calls (suc i) (stepped p c) cs))
 
 pulses_after : (p : Page) (cs : List PageCall) → p.count ≤ length p.groups
-    → pulses_of_calls store_page_of p cs ≡ total p.count (λ k. pulses_of apply_of (group_at p k) (calls k p cs))
+    → pulses_of_calls store_page_of p cs ≡ total p.count (λ k. pulses_of apply_of (group_at_lem p k) (calls k p cs))
 unfolding pulses_of_calls calls_of
-pulses_after p [] r = sym (total-none _ p.count (λ k l. no_calls (group_at p (suc k))))
+pulses_after p [] r = sym (total_none _ p.count (λ k l. no_calls (group_at_lem p (suc k))))
 pulses_after p (c ∷ cs) r =
     let q = stepped p c in
-    let own : ℕ → ℕ = λ k. pulses_of apply_of (group_at p k) (own_call store_page_of k p c) in
-    let rest : ℕ → ℕ = λ k. pulses_of apply_of (group_at q k) (calls k q cs) in
+    let own : ℕ → ℕ = λ k. pulses_of apply_of (group_at_lem p k) (own_call store_page_of k p c) in
+    let rest : ℕ → ℕ = λ k. pulses_of apply_of (group_at_lem q k) (calls k q cs) in
     let later : pulses_of_calls store_page_of q cs ≡ total p.count rest = pulses_after q cs (omega (arith, step_count p c, step_length p c)) ∙ ap (λ (n : ℕ). total n rest) (step_count p c) in
-    let both-parts : total p.count (λ k. own k + rest k) ≡ total p.count own + total p.count rest = total-plus own rest p.count in
-    omega (arith, pulses-step p c, later, both-parts)
-    ∙ total-same (λ k. own k + rest k) _ p.count
+    let both-parts : total p.count (λ k. own k + rest k) ≡ total p.count own + total p.count rest = total_plus own rest p.count in
+    omega (arith, pulses_step p c, later, both-parts)
+    ∙ total_same (λ k. own k + rest k) _ p.count
     (λ k l.
-    ap (λ (g : Group). own (suc k) + pulses_of apply_of g (calls (suc k) q cs)) (group-step p r c k l)
-    ∙ sym (pulses_append (group_at p (suc k)) (own_call store_page_of (suc k) p c) (calls (suc k) q cs)))
+    ap (λ (g : Group). own (suc k) + pulses_of apply_of g (calls (suc k) q cs)) (group_step p r c k l)
+    ∙ sym (pulses_append (group_at_lem p (suc k)) (own_call store_page_of (suc k) p c) (calls (suc k) q cs)))
 
 -- ---- the claim, for a page of groups and a list of calls
 
@@ -98,11 +98,11 @@ module _ (p : Page) (h : HoldsGroups p) (cs : List PageCall) where
   abbrev now : Page
   now = after_calls store_page_of p cs
 
-  own-demand : (k : ℕ) → among p.count k ≡ true → Demand3 apply_of (group_at p k) (calls k p cs)
-  own-demand k e = demand3 (group_at p k) (h k e) (calls k p cs)
+  own_demand : (k : ℕ) → among p.count k ≡ true → Demand3 apply_of (group_at_lem p k) (calls k p cs)
+  own_demand k e = demand3 (group_at_lem p k) (h k e) (calls k p cs)
 
-  in-page : (i : ℕ) → i < p.count → i < now.count
-  in-page i l = omega (arith, count_after p cs)
+  in_page : (i : ℕ) → i < p.count → i < now.count
+  in_page i l = omega (arith, count_after p cs)
 
   module _ (ss : List ℕ) where
     abbrev told : Told AfterStore
@@ -111,17 +111,17 @@ module _ (p : Page) (h : HoldsGroups p) (cs : List PageCall) where
     abbrev Each : ℕ → Type 0
     Each n = (k : ℕ) → among n k ≡ true → number_stored now ss k ≡ 0
 
-    each-among : (n : ℕ) → ((i : ℕ) → i < n → number_stored now ss (suc i) ≡ 0) → Each n
-    each-among n f = of_among n (λ k. number_stored now ss k ≡ 0) f
+    each_among : (n : ℕ) → ((i : ℕ) → i < n → number_stored now ss (suc i) ≡ 0) → Each n
+    each_among n f = of_among n (λ k. number_stored now ss k ≡ 0) f
 
-    each-done : told.number ≡ 0 → (takes now ss ≡ true) × Each p.count
-    each-done z = let t = through now ss z in (t.0, each-among p.count (λ i l. t.1 i (in-page i l)))
+    each_done : told.number ≡ 0 → (takes now ss ≡ true) × Each p.count
+    each_done z = let t = through now ss z in (t.0, each_among p.count (λ i l. t.1 i (in_page i l)))
 
-    done-each : takes now ss ≡ true → Each p.count → told.number ≡ 0
-    done-each t all = go (answered now ss)
+    done_each : takes now ss ≡ true → Each p.count → told.number ≡ 0
+    done_each t all = go (answered now ss)
       where
         go : Answered now ss → told.number ≡ 0
-        go (no-page f e) = absurd (false≢true (sym f ∙ t))
+        go (no_page f e) = absurd (false≢true (sym f ∙ t))
         go (done f a e) = ap (λ (s : Told AfterStore). s.number) e
         go (refused f i a e) = absurd (a.refuses (all (suc i) (among_below p.count i (omega (arith, a.below, count_after p cs)))))
 
@@ -131,22 +131,22 @@ module _ (p : Page) (h : HoldsGroups p) (cs : List PageCall) where
     abbrev own : ℕ → List Call
     own k = own_call store_page_of k now (store_page ss)
 
-    stored-each : told.number ≡ 0 → (k : ℕ) → among p.count k ≡ true → let answer = apply_of (group_at now k) (call k) in
-        (own k ≡ call k ∷ []) × (answer.number ≡ 0) × (answer.value.pulses ≡ rises (group_at now k).levels (group_at told.value.page k).levels)
-    stored-each z zero e = absurd (false≢true e)
-    stored-each z (suc i) e =
+    stored_each : told.number ≡ 0 → (k : ℕ) → among p.count k ≡ true → let answer = apply_of (group_at_lem now k) (call k) in
+        (own k ≡ call k ∷ []) × (answer.number ≡ 0) × (answer.value.pulses ≡ rises (group_at_lem now k).levels (group_at_lem told.value.page k).levels)
+    stored_each z zero e = absurd (false≢true e)
+    stored_each z (suc i) e =
         let t = through now ss z in
         let l = among_true p.count i e in
-        let g = group_at now (suc i) in
-        let new : group_at told.value.page (suc i) ≡ (apply_of g (call (suc i))).value.group = ap (λ (v : AfterStore). group_at v.page (suc i)) t.2 ∙ group-by-call now (room_after p cs (room p h)) ss i (in-page i l) in
-        let twelve : length g.levels ≡ 12 = rw (groups_after p cs (room p h) i l) (group_after_lem (group_at p (suc i)) (calls (suc i) p cs) (h (suc i) e)).levels in (
-          own-stands now ss (suc i) (through-stands now ss (suc i) z),
-          store-call-number now ss (suc i) ∙ t.1 i (in-page i l),
+        let g = group_at_lem now (suc i) in
+        let new : group_at_lem told.value.page (suc i) ≡ (apply_of g (call (suc i))).value.group = ap (λ (v : AfterStore). group_at_lem v.page (suc i)) t.2 ∙ group_by_call now (room_after p cs (room p h)) ss i (in_page i l) in
+        let twelve : length g.levels ≡ 12 = rw (groups_after p cs (room p h) i l) (group_after_lem (group_at_lem p (suc i)) (calls (suc i) p cs) (h (suc i) e)).levels in (
+          own_stands now ss (suc i) (through_stands now ss (suc i) z),
+          store_call_number now ss (suc i) ∙ t.1 i (in_page i l),
           sym (apply_rises g (call (suc i)) twelve) ∙ ap (λ (x : Group). rises g.levels x.levels) (sym new),
         )
 
-    none-taken : takes now ss ≡ false → (told.number ≡ 16) × (told.value.group ≡ 0)
-    none-taken e = rw (← store_not now ss e) (refl, refl)
+    none_taken : takes now ss ≡ false → (told.number ≡ 16) × (told.value.group ≡ 0)
+    none_taken e = rw (← store_not now ss e) (refl, refl)
 
     -- no group before k refuses
     abbrev Before : ℕ → Type 0
@@ -157,79 +157,79 @@ module _ (p : Page) (h : HoldsGroups p) (cs : List PageCall) where
       before_first b j l = b (suc j) (among_below (suc i - 1) j (omega arith))
 
       first : i < p.count → Before (suc i) → number_stored now ss (suc i) ≢ 0 → FirstAt (number_stored now ss) now.count i
-      first l b r = record { below = in-page i l; before = no-first (number_stored now ss) i (before_first b); refuses = r }
+      first l b r = record { below = in_page i l; before = no_first (number_stored now ss) i (before_first b); refuses = r }
 
-    refused-first : (k : ℕ) → takes now ss ≡ true → among p.count k ≡ true → number_stored now ss k ≢ 0 → Before k
+    refused_first : (k : ℕ) → takes now ss ≡ true → among p.count k ≡ true → number_stored now ss k ≢ 0 → Before k
         → (told.number ≡ number_stored now ss k) × (told.value.group ≡ k)
-    refused-first zero t m r b = absurd (false≢true m)
-    refused-first (suc i) t m r b = rw (first-refused now ss t i (first i (among_true p.count i m) b r)) (refl, refl)
+    refused_first zero t m r b = absurd (false≢true m)
+    refused_first (suc i) t m r b = rw (first_refused now ss t i (first i (among_true p.count i m) b r)) (refl, refl)
 
-    named-stuck : is_worn_or_spent told.number ≡ true
+    named_stuck : is_worn_or_spent told.number ≡ true
         → let k = told.value.group in
-        (among p.count k ≡ true) × (own k ≡ call k ∷ []) × ((apply_of (group_at now k) (call k)).number ≡ told.number) × ((j : ℕ) → j ≢ k → own j ≡ [])
-    named-stuck w =
-        let t = stuck-store now ss w in (
+        (among p.count k ≡ true) × (own k ≡ call k ∷ []) × ((apply_of (group_at_lem now k) (call k)).number ≡ told.number) × ((j : ℕ) → j ≢ k → own j ≡ [])
+    named_stuck w =
+        let t = stuck_store now ss w in (
           ap (λ (n : ℕ). among n told.value.group) (sym (count_after p cs)) ∙ t.0,
-          own-stands now ss told.value.group (stuck-stands now ss w),
+          own_stands now ss told.value.group (stuck_stands now ss w),
           t.1,
-          λ j d. own-not now ss j (other-not now ss w j d),
+          λ j d. own_not now ss j (other_not now ss w j d),
         )
 
-    no-list : told.number ≢ 0 → is_worn_or_spent told.number ≡ false → (k : ℕ) → own k ≡ []
-    no-list r w k = own-not now ss k (not-stands now ss r w k)
+    no_list : told.number ≢ 0 → is_worn_or_spent told.number ≡ false → (k : ℕ) → own k ≡ []
+    no_list r w k = own_not now ss k (not_stands now ss r w k)
 
     -- no rival of group k can be raised to show the codeword of its symbol
     abbrev Shut : ℕ → Type 0
-    Shut k = let g = group_at p k in ¬ (Raisable apply_of g (calls k p cs) (target (plain apply_of g g (calls k p cs)) (call k)))
+    Shut k = let g = group_at_lem p k in ¬ (Raisable apply_of g (calls k p cs) (target (plain apply_of g g (calls k p cs)) (call k)))
 
     -- demand 3 of a group of the page: past the earlier checks its store is worn or spent exactly then
-    stuck-shut : (i : ℕ) → i < p.count → number_of (earlier_checks (group_at now (suc i)) (call (suc i))) ≡ 0
-        → (is_worn_or_spent (apply_of (group_at now (suc i)) (call (suc i))).number ≡ true) ↔ Shut (suc i)
-    stuck-shut i l e =
+    stuck_shut : (i : ℕ) → i < p.count → number_of (earlier_checks (group_at_lem now (suc i)) (call (suc i))) ≡ 0
+        → (is_worn_or_spent (apply_of (group_at_lem now (suc i)) (call (suc i))).number ≡ true) ↔ Shut (suc i)
+    stuck_shut i l e =
         let same = groups_after p cs (room p h) i l in
-        rw same ((own-demand (suc i) (among_below p.count i l)).stuck-exactly (call (suc i)) refl (rw same at e))
+        rw same ((own_demand (suc i) (among_below p.count i l)).stuck_exactly (call (suc i)) refl (rw same at e))
 
     abbrev StuckAt : ℕ → Type 0
-    StuckAt k = (takes now ss ≡ true) × (among p.count k ≡ true) × Before k × (number_of (earlier_checks (group_at now k) (call k)) ≡ 0) × Shut k
+    StuckAt k = (takes now ss ≡ true) × (among p.count k ≡ true) × Before k × (number_of (earlier_checks (group_at_lem now k) (call k)) ≡ 0) × Shut k
 
-    stuck-why : (k : ℕ) → is_worn_or_spent told.number ≡ true → told.value.group ≡ k → StuckAt k
-    stuck-why k w d =
-        let (i, t) = stuck-first now ss w in
+    stuck_why : (k : ℕ) → is_worn_or_spent told.number ≡ true → told.value.group ≡ k → StuckAt k
+    stuck_why k w d =
+        let (i, t) = stuck_first now ss w in
         let l : i < p.count = omega (arith, t.first.below, count_after p cs) in
-        let own : is_worn_or_spent (apply_of (group_at now (suc i)) (call (suc i))).number ≡ true = ap is_worn_or_spent (store-call-number now ss (suc i) ∙ sym t.number) ∙ w in
-        let earlier = stuck_passed (group_at now (suc i)) (symbol_at ss (suc i)) own in
+        let own : is_worn_or_spent (apply_of (group_at_lem now (suc i)) (call (suc i))).number ≡ true = ap is_worn_or_spent (store_call_number now ss (suc i) ∙ sym t.number) ∙ w in
+        let earlier = stuck_passed (group_at_lem now (suc i)) (symbol_at ss (suc i)) own in
         rw (sym d ∙ t.named) (
           t.taken,
           among_below p.count i l,
-          each-among (suc i - 1) (λ j m. first-not (number_stored now ss) i t.first.before j (omega arith)),
+          each_among (suc i - 1) (λ j m. first_not (number_stored now ss) i t.first.before j (omega arith)),
           earlier,
-          (stuck-shut i l earlier).0 own,
+          (stuck_shut i l earlier).0 own,
         )
 
-    stuck-where : (k : ℕ) → StuckAt k → (is_worn_or_spent told.number ≡ true) × (told.value.group ≡ k)
-    stuck-where zero (t, m, b, e, shut) = absurd (false≢true m)
-    stuck-where (suc i) (t, m, b, e, shut) =
-        let own : is_worn_or_spent (number_stored now ss (suc i)) ≡ true = ap is_worn_or_spent (sym (store-call-number now ss (suc i))) ∙ (stuck-shut i (among_true p.count i m) e).1 shut in
-        let r = refused-first (suc i) t m (λ z. false≢true (rw z at own)) b in
+    stuck_where : (k : ℕ) → StuckAt k → (is_worn_or_spent told.number ≡ true) × (told.value.group ≡ k)
+    stuck_where zero (t, m, b, e, shut) = absurd (false≢true m)
+    stuck_where (suc i) (t, m, b, e, shut) =
+        let own : is_worn_or_spent (number_stored now ss (suc i)) ≡ true = ap is_worn_or_spent (sym (store_call_number now ss (suc i))) ∙ (stuck_shut i (among_true p.count i m) e).1 shut in
+        let r = refused_first (suc i) t m (λ z. false≢true (rw z at own)) b in
         (ap is_worn_or_spent r.0 ∙ own, r.1)
 
-  pub page-claim : PageDemand3 store_page_of p cs
-  page-claim =
+  pub page_claim : PageDemand3 store_page_of p cs
+  page_claim =
       record {
         as_many = count_after p cs;
-        groups = of_among p.count (λ k. group_at now k ≡ after apply_of (group_at p k) (calls k p cs)) (groups_after p cs (room p h));
+        groups = of_among p.count (λ k. group_at_lem now k ≡ after apply_of (group_at_lem p k) (calls k p cs)) (groups_after p cs (room p h));
         pulses = pulses_after p cs (room p h);
-        demand3 = own-demand;
-        accepted = λ ss. (each-done ss, λ t. done-each ss t.0 t.1);
-        went-through = stored-each;
-        no-page = none-taken;
-        first-refuses = refused-first;
+        demand3 = own_demand;
+        accepted = λ ss. (each_done ss, λ t. done_each ss t.0 t.1);
+        went_through = stored_each;
+        no_page = none_taken;
+        first_refuses = refused_first;
         refused = kept now;
-        rivals-stay = λ ss z k e. rival_stays now ss z k;
-        stuck-named = named-stuck;
-        in-no-list = no-list;
-        stuck-exactly = λ ss k. (λ w. stuck-why ss k w.0 w.1, stuck-where ss k);
+        rivals_stay = λ ss z k e. rival_stays now ss z k;
+        stuck_named = named_stuck;
+        in_no_list = no_list;
+        stuck_exactly = λ ss k. (λ w. stuck_why ss k w.0 w.1, stuck_where ss k);
       }
 
 pub page_demand3 : MeetsPageDemand3 store_page_of
-page_demand3 = page-claim
+page_demand3 = page_claim

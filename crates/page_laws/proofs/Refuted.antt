@@ -26,7 +26,7 @@ use Rattle.plain_machine.specs.Machine.{apply_of}
 use Rattle.rivals.specs.Rivals.{after, pulses_of}
 use Rattle.page.specs.declared.Page.{Page}
 use Rattle.page.specs.Groups.{total, all_of, put_each, first_refusing}
-use Rattle.page.specs.Pages.{group_at, like_first, is_page, page_answer}
+use Rattle.page.specs.Pages.{group_at_lem, like_first, is_page, page_answer}
 use Rattle.page_store.specs.StoreAnswer.{symbol_at, takes, number_stored, group_stored, pulses_stored, all_stored, none_stored, store_page_of}
 use Rattle.page_laws.specs.PageLists.{PageCall, store_page, PageMachine, among, stands, HoldsGroups, page_step, page_pulses, own_call, after_calls, pulses_of_calls, calls_of, PageDemand3, MeetsPageDemand3}
 use Rattle.page_laws.proofs.Groups.{of_among}
@@ -62,8 +62,8 @@ module _ (g h : Group) where
   abbrev two : Page
   two = page (g ∷ h ∷ [])
 
-  two-held : IsGroup g → IsGroup h → HoldsGroups two
-  two-held a b = of_two (λ k. IsGroup (group_at two k)) a b
+  two_held : IsGroup g → IsGroup h → HoldsGroups two
+  two_held a b = of_two (λ k. IsGroup (group_at_lem two k)) a b
 
 abbrev first_low : Page
 first_low = two low blank
@@ -76,18 +76,18 @@ last_used_up = two blank used_up
 
 module _ (store : PageMachine) where
   -- one list of calls on one of these pages is enough
-  first-fails : (cs : List PageCall) → ¬ (PageDemand3 store first_low cs) → ¬ (MeetsPageDemand3 store)
-  first-fails cs fault meets = fault (meets first_low (two-held low blank low_group new_group) cs)
+  first_fails : (cs : List PageCall) → ¬ (PageDemand3 store first_low cs) → ¬ (MeetsPageDemand3 store)
+  first_fails cs fault meets = fault (meets first_low (two_held low blank low_group new_group) cs)
 
-  last-fails : (cs : List PageCall) → ¬ (PageDemand3 store last_low cs) → ¬ (MeetsPageDemand3 store)
-  last-fails cs fault meets = fault (meets last_low (two-held blank low new_group low_group) cs)
+  last_fails : (cs : List PageCall) → ¬ (PageDemand3 store last_low cs) → ¬ (MeetsPageDemand3 store)
+  last_fails cs fault meets = fault (meets last_low (two_held blank low new_group low_group) cs)
 
   -- where the second group is spent and no group before it refuses, its number is told
-  spent-fails : (store last_used_up (1 ∷ 1 ∷ [])).number ≢ 19 → ¬ (MeetsPageDemand3 store)
+  spent_fails : (store last_used_up (1 ∷ 1 ∷ [])).number ≢ 19 → ¬ (MeetsPageDemand3 store)
   unfolding after_calls refusals.answer number_of level put at_most tallied all_at_most is_row singles top floor_over lift raise push_of rank_pushes pushes pulses_in raised fits lasts pushed store_of word_of order_from K word_at words vectors vectors_from joined select leaves weight total all_of put_each first_refusing like_first is_page takes page_answer number_stored group_stored pulses_stored store_page_of
-  spent-fails fault meets =
+  spent_fails fault meets =
       fault
-      ((meets last_used_up (two-held blank used_up new_group used_up_group) []).first-refuses (1 ∷ 1 ∷ []) 2 refl refl (λ e. omega arith)
+      ((meets last_used_up (two_held blank used_up new_group used_up_group) []).first_refuses (1 ∷ 1 ∷ []) 2 refl refl (λ e. omega arith)
       (of_among 1 (λ j. number_stored last_used_up (1 ∷ 1 ∷ []) j ≡ 0) by)).0
     where
       by : (i : ℕ) → i < 1 → number_stored last_used_up (1 ∷ 1 ∷ []) (suc i) ≡ 0
@@ -103,7 +103,7 @@ quitter p ss = record { number = 8; value = none_stored p 1 }
 pub quitter_refuted : ¬ (MeetsPageDemand3 quitter)
 unfolding quitter after_calls refusals.answer number_of level put at_most tallied all_at_most is_row singles top floor_over lift raise push_of rank_pushes pushes pulses_in raised fits lasts pushed store_of word_of order_from K word_at words vectors vectors_from joined select leaves weight total all_of put_each first_refusing like_first is_page takes page_answer number_stored group_stored pulses_stored store_page_of
 quitter_refuted =
-    last-fails quitter []
+    last_fails quitter []
     (λ d. let e : ◌≡◌ {A = ℕ} 8 0 = (d.accepted (0 ∷ 0 ∷ [])).1 (refl, of_two (λ k. number_stored last_low (0 ∷ 0 ∷ []) k ≡ 0) refl refl) in omega arith)
 
 -- one that keeps what it stored before a group refuses
@@ -124,24 +124,24 @@ half_way p ss =
 pub half_way_refuted : ¬ (MeetsPageDemand3 half_way)
 unfolding half_way after_calls refusals.answer number_of level put at_most tallied all_at_most is_row singles top floor_over lift raise push_of rank_pushes pushes pulses_in raised fits lasts pushed store_of word_of order_from K word_at words vectors vectors_from joined select leaves weight total all_of put_each first_refusing like_first is_page takes page_answer number_stored group_stored pulses_stored store_page_of
 half_way_refuted =
-    last-fails half_way []
+    last_fails half_way []
     (λ d.
     let same = (d.refused (1 ∷ 1 ∷ []) (λ e. omega arith)).0 in
-    let e : ◌≡◌ {A = ℕ} 2 0 = ap (λ (p : Page). level (group_at p 1).levels 3) same in
+    let e : ◌≡◌ {A = ℕ} 2 0 = ap (λ (p : Page). level (group_at_lem p 1).levels 3) same in
     omega arith)
 
 -- one that asks in all groups whether there is such a symbol before it stores in any, as a row of checks over the whole page would
 pub row_first : PageMachine
 row_first p ss =
-    let k = first_refusing p.count (λ j. cond (ltb (symbol_at ss j) (K (group_at p j).n)) 0 5) in
+    let k = first_refusing p.count (λ j. cond (ltb (symbol_at ss j) (K (group_at_lem p j).n)) 0 5) in
     if_done k (store_page_of p ss) (record { number = 5; value = none_stored p k })
 
 pub row_first_refuted : ¬ (MeetsPageDemand3 row_first)
 unfolding row_first after_calls refusals.answer number_of level put at_most tallied all_at_most is_row singles top floor_over lift raise push_of rank_pushes pushes pulses_in raised fits lasts pushed store_of word_of order_from K word_at words vectors vectors_from joined select leaves weight total all_of put_each first_refusing like_first is_page takes page_answer number_stored group_stored pulses_stored store_page_of
 row_first_refuted =
-    first-fails row_first []
+    first_fails row_first []
     (λ d.
-    let t = d.first-refuses (1 ∷ 2 ∷ []) 1 refl refl (λ e. omega arith) (of_among 0 (λ j. number_stored first_low (1 ∷ 2 ∷ []) j ≡ 0) (λ i l. absurd (omega arith))) in
+    let t = d.first_refuses (1 ∷ 2 ∷ []) 1 refl refl (λ e. omega arith) (of_among 0 (λ j. number_stored first_low (1 ∷ 2 ∷ []) j ≡ 0) (λ i l. absurd (omega arith))) in
     let e : ◌≡◌ {A = ℕ} 5 8 = t.0 in
     omega arith)
 
@@ -154,7 +154,7 @@ last_counted p ss =
 pub last_counted_refuted : ¬ (MeetsPageDemand3 last_counted)
 unfolding last_counted after_calls refusals.answer number_of level put at_most tallied all_at_most is_row singles top floor_over lift raise push_of rank_pushes pushes pulses_in raised fits lasts pushed store_of word_of order_from K word_at words vectors vectors_from joined select leaves weight total all_of put_each first_refusing like_first is_page takes page_answer number_stored group_stored pulses_stored store_page_of apply_of after pulses_of stands page_step page_pulses own_call pulses_of_calls calls_of
 last_counted_refuted =
-    last-fails last_counted (store_page (0 ∷ 0 ∷ []) ∷ []) (λ d. let e : ◌≡◌ {A = ℕ} 3 6 = d.pulses in omega arith)
+    last_fails last_counted (store_page (0 ∷ 0 ∷ []) ∷ []) (λ d. let e : ◌≡◌ {A = ℕ} 3 6 = d.pulses in omega arith)
 
 -- one that stores in the first group alone
 pub first_alone : PageMachine
@@ -168,7 +168,7 @@ first_alone p ss =
 pub first_alone_refuted : ¬ (MeetsPageDemand3 first_alone)
 unfolding first_alone after_calls refusals.answer number_of level put at_most tallied all_at_most is_row singles top floor_over lift raise push_of rank_pushes pushes pulses_in raised fits lasts pushed store_of word_of order_from K word_at words vectors vectors_from joined select leaves weight total all_of put_each first_refusing like_first is_page takes page_answer number_stored group_stored pulses_stored store_page_of apply_of after stands page_step own_call calls_of
 first_alone_refuted =
-    last-fails first_alone (store_page (0 ∷ 0 ∷ []) ∷ [])
+    last_fails first_alone (store_page (0 ∷ 0 ∷ []) ∷ [])
     (λ d. let e : ◌≡◌ {A = ℕ} 0 2 = ap (λ (g : Group). level g.levels 1) (d.groups 2 refl) in omega arith)
 
 -- one that loses the last group
@@ -180,7 +180,7 @@ loser p ss =
 
 pub loser_refuted : ¬ (MeetsPageDemand3 loser)
 unfolding loser page_step after_calls refusals.answer number_of level put at_most tallied all_at_most is_row singles top floor_over lift raise push_of rank_pushes pushes pulses_in raised fits lasts pushed store_of word_of order_from K word_at words vectors vectors_from joined select leaves weight total all_of put_each first_refusing like_first is_page takes page_answer number_stored group_stored pulses_stored store_page_of
-loser_refuted = last-fails loser (store_page (0 ∷ 0 ∷ []) ∷ []) (λ d. let e : ◌≡◌ {A = ℕ} 1 2 = d.as_many in omega arith)
+loser_refuted = last_fails loser (store_page (0 ∷ 0 ∷ []) ∷ []) (λ d. let e : ◌≡◌ {A = ℕ} 1 2 = d.as_many in omega arith)
 
 -- one that takes more symbols than there are groups
 pub lavish : PageMachine
@@ -188,7 +188,7 @@ lavish p ss = store_page_of p (take p.count ss)
 
 pub lavish_refuted : ¬ (MeetsPageDemand3 lavish)
 unfolding lavish after_calls refusals.answer number_of level put at_most tallied all_at_most is_row singles top floor_over lift raise push_of rank_pushes pushes pulses_in raised fits lasts pushed store_of word_of order_from K word_at words vectors vectors_from joined select leaves weight total all_of put_each first_refusing like_first is_page takes page_answer number_stored group_stored pulses_stored store_page_of
-lavish_refuted = last-fails lavish [] (λ d. let e : ◌≡◌ {A = ℕ} 0 16 = (d.no-page (0 ∷ 0 ∷ 0 ∷ []) refl).0 in omega arith)
+lavish_refuted = last_fails lavish [] (λ d. let e : ◌≡◌ {A = ℕ} 0 16 = (d.no_page (0 ∷ 0 ∷ 0 ∷ []) refl).0 in omega arith)
 
 -- one that takes groups of different n
 pub mixer : PageMachine
@@ -197,8 +197,8 @@ mixer p ss = if_done (first_refusing p.count (number_stored p ss)) (record { num
 pub mixer_refuted : ¬ (MeetsPageDemand3 mixer)
 unfolding mixer after_calls refusals.answer number_of level put at_most tallied all_at_most is_row singles top floor_over lift raise push_of rank_pushes pushes pulses_in raised fits lasts pushed store_of word_of order_from K word_at words vectors vectors_from joined select leaves weight total all_of put_each first_refusing like_first is_page takes page_answer number_stored group_stored pulses_stored store_page_of
 mixer_refuted meets =
-    let d = meets (two blank four) (two-held blank four new_group four_group) [] in
-    let e : ◌≡◌ {A = ℕ} 0 16 = (d.no-page (0 ∷ 0 ∷ []) refl).0 in
+    let d = meets (two blank four) (two_held blank four new_group four_group) [] in
+    let e : ◌≡◌ {A = ℕ} 0 16 = (d.no_page (0 ∷ 0 ∷ []) refl).0 in
     omega arith
 
 -- one that names the group after the first that refuses
@@ -208,9 +208,9 @@ misnamer p ss = let t = store_page_of p ss in record { number = t.number; value 
 pub misnamer_refuted : ¬ (MeetsPageDemand3 misnamer)
 unfolding misnamer after_calls refusals.answer number_of level put at_most tallied all_at_most is_row singles top floor_over lift raise push_of rank_pushes pushes pulses_in raised fits lasts pushed store_of word_of order_from K word_at words vectors vectors_from joined select leaves weight total all_of put_each first_refusing like_first is_page takes page_answer number_stored group_stored pulses_stored store_page_of
 misnamer_refuted =
-    first-fails misnamer []
+    first_fails misnamer []
     (λ d.
-    let t = d.first-refuses (1 ∷ 1 ∷ []) 1 refl refl (λ e. omega arith) (of_among 0 (λ j. number_stored first_low (1 ∷ 1 ∷ []) j ≡ 0) (λ i l. absurd (omega arith))) in
+    let t = d.first_refuses (1 ∷ 1 ∷ []) 1 refl refl (λ e. omega arith) (of_among 0 (λ j. number_stored first_low (1 ∷ 1 ∷ []) j ≡ 0) (λ i l. absurd (omega arith))) in
     let e : ◌≡◌ {A = ℕ} 2 1 = t.1 in
     omega arith)
 
@@ -222,18 +222,18 @@ spender p ss =
 
 pub spender_refuted : ¬ (MeetsPageDemand3 spender)
 unfolding spender after_calls refusals.answer number_of level put at_most tallied all_at_most is_row singles top floor_over lift raise push_of rank_pushes pushes pulses_in raised fits lasts pushed store_of word_of order_from K word_at words vectors vectors_from joined select leaves weight total all_of put_each first_refusing like_first is_page takes page_answer number_stored group_stored pulses_stored store_page_of
-spender_refuted = last-fails spender [] (λ d. let e : ◌≡◌ {A = ℕ} 3 0 = (d.refused (1 ∷ 1 ∷ []) (λ e. omega arith)).1 in omega arith)
+spender_refuted = last_fails spender [] (λ d. let e : ◌≡◌ {A = ℕ} 3 0 = (d.refused (1 ∷ 1 ∷ []) (λ e. omega arith)).1 in omega arith)
 
 -- one that stores as if no cell had taken a pulse
 pub tireless : PageMachine
 tireless p ss =
     store_page_of
-    (record { count = p.count; groups = put_each p.count (λ k. with_used (group_at p k) (replicate 12 0)) p.groups })
+    (record { count = p.count; groups = put_each p.count (λ k. with_used (group_at_lem p k) (replicate 12 0)) p.groups })
     ss
 
 pub tireless_refuted : ¬ (MeetsPageDemand3 tireless)
 unfolding tireless after_calls refusals.answer number_of level put at_most tallied all_at_most is_row singles top floor_over lift raise push_of rank_pushes pushes pulses_in raised fits lasts pushed store_of word_of order_from K word_at words vectors vectors_from joined select leaves weight total all_of put_each first_refusing like_first is_page takes page_answer number_stored group_stored pulses_stored store_page_of
-tireless_refuted = spent-fails tireless (λ e. let z : ◌≡◌ {A = ℕ} 0 19 = e in omega arith)
+tireless_refuted = spent_fails tireless (λ e. let z : ◌≡◌ {A = ℕ} 0 19 = e in omega arith)
 
 -- one that says worn where a group is spent
 pub wearier : PageMachine
@@ -241,4 +241,4 @@ wearier p ss = let t = store_page_of p ss in record { number = cond (eqb t.numbe
 
 pub wearier_refuted : ¬ (MeetsPageDemand3 wearier)
 unfolding wearier after_calls refusals.answer number_of level put at_most tallied all_at_most is_row singles top floor_over lift raise push_of rank_pushes pushes pulses_in raised fits lasts pushed store_of word_of order_from K word_at words vectors vectors_from joined select leaves weight total all_of put_each first_refusing like_first is_page takes page_answer number_stored group_stored pulses_stored store_page_of
-wearier_refuted = spent-fails wearier (λ e. let z : ◌≡◌ {A = ℕ} 8 19 = e in omega arith)
+wearier_refuted = spent_fails wearier (λ e. let z : ◌≡◌ {A = ℕ} 8 19 = e in omega arith)

@@ -1,8 +1,8 @@
 -- The claim speaks of something. There are freshly opened pages, of every n, each endurance in its range and each number of groups. On every such page with
--- an endurance of n - 1 or more a first page store goes through, whichever of the symbols below K(n) it stores (there are some: `some-symbol`, code/Laws). And
+-- an endurance of n - 1 or more a first page store goes through, whichever of the symbols below K(n) it stores (there are some: `some_symbol`, code/Laws). And
 -- one is refused half way, by whichever group, though each other one would have taken its symbol: as worn, where the cell that the codeword of its symbol has
--- on top has worn to 0 in this group (`worn-at`); and as spent, where this group has stored the symbol before and was erased, and the endurance is below twice
--- n - 1 (`spent-at`); both by page_laws/Stuck.
+-- on top has worn to 0 in this group (`worn_at`); and as spent, where this group has stored the symbol before and was erased, and the endurance is below twice
+-- n - 1 (`spent_at`); both by page_laws/Stuck.
 -- Assumes nothing.
 use Prim.Native.Nat.{ℕ, suc, ◌+◌, ◌-◌, ◌≤◌, ◌<◌}
 use native.Mathlib.Omega.{arith}
@@ -28,15 +28,15 @@ use Rattle.plain_machine.specs.Machine.{apply_of}
 use Rattle.rivals.specs.Rivals.{after}
 use Rattle.rivals.proofs.Valid.{first_store}
 use Rattle.page.specs.declared.Page.{Page}
-use Rattle.page.specs.Pages.{group_at, like_first, is_page}
+use Rattle.page.specs.Pages.{group_at_lem, like_first, is_page}
 use Rattle.page_store.specs.StoreAnswer.{symbol_at, takes, number_stored, all_stored, none_stored, store_page_of}
 use Rattle.page_store.proofs.Storing.{is_taken}
-use Rattle.page.proofs.Pages.{page-done}
+use Rattle.page.proofs.Pages.{page_done}
 use Rattle.page_laws.specs.PageLists.{PageCall, on_group, among, store_call, HoldsGroups, OpenedPage, page_step, own_call, after_calls, calls_of}
-use Rattle.page_laws.proofs.Groups.{among_below, of_among, all_each, no-first}
-use Rattle.page_laws.proofs.Steps.{room, store-call-number}
-use Rattle.page_laws.proofs.PageDemand3.{count_after, groups_after, page-claim}
-use Rattle.page_laws.proofs.Stuck.{wearing, wear-done, worn-number, erasing, spent-reached, spent-number}
+use Rattle.page_laws.proofs.Groups.{among_below, of_among, all_each, no_first}
+use Rattle.page_laws.proofs.Steps.{room, store_call_number}
+use Rattle.page_laws.proofs.PageDemand3.{count_after, groups_after, page_claim}
+use Rattle.page_laws.proofs.Stuck.{wearing, wear_done, worn_number, erasing, spent_reached, spent_number}
 
 pub opened_holds : (n e : ℕ) (p : Page) → OpenedPage n e p → HoldsGroups p
 opened_holds n e p o k m = rw (o.groups k m) (open_group n e o.opens)
@@ -50,13 +50,13 @@ opened_page_of n e c done l m =
       opens = done;
       least = l;
       most = m;
-      groups = of_among c (λ k. group_at p k ≡ (open_of n e).value) (λ i b. get_or-replicate 8 (suc i - 1) (open_of n e).value no_group (omega arith));
+      groups = of_among c (λ k. group_at_lem p k ≡ (open_of n e).value) (λ i b. get_or-replicate 8 (suc i - 1) (open_of n e).value no_group (omega arith));
     }
 
 -- ---- the first page store goes through
 
 -- records with one n are a page
-like_all : (p : Page) → 1 ≤ p.count → p.count ≤ 8 → (n : ℕ) → ((i : ℕ) → i < p.count → (group_at p (suc i)).n ≡ n) → is_page p ≡ true
+like_all : (p : Page) → 1 ≤ p.count → p.count ≤ 8 → (n : ℕ) → ((i : ℕ) → i < p.count → (group_at_lem p (suc i)).n ≡ n) → is_page p ≡ true
 unfolding is_page like_first
 like_all p l m n h =
     rw (le-leb 1 p.count l, le-leb p.count 8 m)
@@ -69,26 +69,26 @@ module _ (n e : ℕ) (p : Page) (o : OpenedPage n e p) where
       let sized = check_held (is_size n) Size _ (told_accepted (open_checks n e) (opened n e) no_group o.opens).0 in
       (sized.0, (check_held (is_endurance e) Endurance [] sized.1).0)
 
-  opened-at : (i : ℕ) → i < p.count → group_at p (suc i) ≡ opened n e
+  opened_at : (i : ℕ) → i < p.count → group_at_lem p (suc i) ≡ opened n e
   unfolding open_of
-  opened-at i l = o.groups (suc i) (among_below p.count i l) ∙ (told_accepted (open_checks n e) (opened n e) no_group o.opens).1
+  opened_at i l = o.groups (suc i) (among_below p.count i l) ∙ (told_accepted (open_checks n e) (opened n e) no_group o.opens).1
 
-  opened-page : is_page p ≡ true
-  opened-page = like_all p o.least o.most n (λ i l. ap (λ (g : Group). g.n) (opened-at i l))
+  opened_page : is_page p ≡ true
+  opened_page = like_all p o.least o.most n (λ i l. ap (λ (g : Group). g.n) (opened_at i l))
 
   module _ (enough : n - 1 ≤ e) (ss : List ℕ) where
     -- the store of a symbol that there is, in a group of the page
-    first-number : (i : ℕ) → i < p.count → symbol_at ss (suc i) < K n → number_stored p ss (suc i) ≡ 0
-    first-number i l s =
-        sym (store-call-number p ss (suc i))
-        ∙ rw (opened-at i l) (first_store n e ranges.0 ranges.1 enough (symbol_at ss (suc i)) s)
+    first_number : (i : ℕ) → i < p.count → symbol_at ss (suc i) < K n → number_stored p ss (suc i) ≡ 0
+    first_number i l s =
+        sym (store_call_number p ss (suc i))
+        ∙ rw (opened_at i l) (first_store n e ranges.0 ranges.1 enough (symbol_at ss (suc i)) s)
 
-    pub first-page : length ss ≡ p.count → ((k : ℕ) → among p.count k ≡ true → symbol_at ss k < K n) → (store_page_of p ss).number ≡ 0
+    pub first_page : length ss ≡ p.count → ((k : ℕ) → among p.count k ≡ true → symbol_at ss k < K n) → (store_page_of p ss).number ≡ 0
     unfolding store_page_of
-    first-page w s =
+    first_page w s =
         sym (ap (λ t. t.number)
-        (page-done (takes p ss) p.count (number_stored p ss) (all_stored p ss) _ (is_taken p ss opened-page w)
-        (no-first (number_stored p ss) p.count (λ i l. first-number i l (s (suc i) (among_below p.count i l))))))
+        (page_done (takes p ss) p.count (number_stored p ss) (all_stored p ss) _ (is_taken p ss opened_page w)
+        (no_first (number_stored p ss) p.count (λ i l. first_number i l (s (suc i) (among_below p.count i l))))))
 
 -- ---- one is refused half way: one group has had calls of its own
 
@@ -113,11 +113,11 @@ alone_calls k j p (c ∷ cs) = rw (alone_calls k j (page_step store_page_of p (o
 module _
     (n e : ℕ) (p : Page) (o : OpenedPage n e p) (enough : n - 1 ≤ e) (ss : List ℕ) (each : length ss ≡ p.count)
     (there : (k : ℕ) → among p.count k ≡ true → symbol_at ss k < K n) (i : ℕ) (inside : i < p.count) where
-  there-at : (j : ℕ) → j < p.count → symbol_at ss (suc j) < K n
-  there-at j l = there (suc j) (among_below p.count j l)
+  there_at : (j : ℕ) → j < p.count → symbol_at ss (suc j) < K n
+  there_at j l = there (suc j) (among_below p.count j l)
 
-  abbrev own-symbol : ℕ
-  own-symbol = symbol_at ss (suc i)
+  abbrev own_symbol : ℕ
+  own_symbol = symbol_at ss (suc i)
 
   -- the page store is refused with this number by group i + 1 after these calls on it, and no group changes, though each other one would have taken its symbol
   abbrev pub RefusedHalfWay : ℕ → List Call → Type 0
@@ -127,7 +127,7 @@ module _
       (t.number ≡ number) × (t.value ≡ none_stored now (suc i)) × ((j : ℕ) → j < p.count → j ≢ i → number_stored now ss (suc j) ≡ 0)
 
   -- what the calls left refuses its symbol
-  module _ (cs : List Call) (g : Group) (reached : after apply_of (opened n e) cs ≡ g) (same-n : g.n ≡ n) (number : ℕ) (refuses : (apply_of g (store_call own-symbol)).number ≡ number)
+  module _ (cs : List Call) (g : Group) (reached : after apply_of (opened n e) cs ≡ g) (same_n : g.n ≡ n) (number : ℕ) (refuses : (apply_of g (store_call own_symbol)).number ≡ number)
       (refusal : number ≢ 0) where
     abbrev now : Page
     now = after_calls store_page_of p (alone (suc i) cs)
@@ -135,56 +135,56 @@ module _
     abbrev found : Bool → Group
     found here = cond here g (opened n e)
 
-    group-now : (j : ℕ) → j < p.count → group_at now (suc j) ≡ found (eqb (suc i) (suc j))
+    group_now : (j : ℕ) → j < p.count → group_at_lem now (suc j) ≡ found (eqb (suc i) (suc j))
     unfolding after
-    group-now j l =
+    group_now j l =
         groups_after p (alone (suc i) cs) (room p (opened_holds n e p o)) j l
-        ∙ rw (opened-at n e p o j l, alone_calls (suc i) (suc j) p cs) (go (eqb (suc i) (suc j)))
+        ∙ rw (opened_at n e p o j l, alone_calls (suc i) (suc j) p cs) (go (eqb (suc i) (suc j)))
       where
         go : (b : Bool) → after apply_of (opened n e) (cond b cs []) ≡ found b
         go true = reached
         go false = refl
 
-    here-refuses : number_stored now ss (suc i) ≡ number
-    here-refuses =
-        let group : group_at now (suc i) ≡ g = group-now i inside ∙ ap found (eq-eqb (suc i) (suc i) refl) in
-        sym (store-call-number now ss (suc i)) ∙ rw group refuses
+    here_refuses : number_stored now ss (suc i) ≡ number
+    here_refuses =
+        let group : group_at_lem now (suc i) ≡ g = group_now i inside ∙ ap found (eq-eqb (suc i) (suc i) refl) in
+        sym (store_call_number now ss (suc i)) ∙ rw group refuses
 
-    others-take : (j : ℕ) → j < p.count → j ≢ i → number_stored now ss (suc j) ≡ 0
-    others-take j l d =
-        let group : group_at now (suc j) ≡ opened n e = group-now j l ∙ ap found (ne_eqb (suc i) (suc j) (λ q. d (omega arith))) in
+    others_take : (j : ℕ) → j < p.count → j ≢ i → number_stored now ss (suc j) ≡ 0
+    others_take j l d =
+        let group : group_at_lem now (suc j) ≡ opened n e = group_now j l ∙ ap found (ne_eqb (suc i) (suc j) (λ q. d (omega arith))) in
         let r = ranges n e p o in
-        sym (store-call-number now ss (suc j)) ∙ rw group (first_store n e r.0 r.1 enough (symbol_at ss (suc j)) (there-at j l))
+        sym (store_call_number now ss (suc j)) ∙ rw group (first_store n e r.0 r.1 enough (symbol_at ss (suc j)) (there_at j l))
 
-    taken-now : takes now ss ≡ true
-    taken-now =
+    taken_now : takes now ss ≡ true
+    taken_now =
         let same = count_after p (alone (suc i) cs) in
         is_taken now ss
-        (like_all now (omega (arith, o.least)) (omega (arith, o.most)) n (λ j l. rw (group-now j (omega (arith, same))) (go (eqb (suc i) (suc j)))))
+        (like_all now (omega (arith, o.least)) (omega (arith, o.most)) n (λ j l. rw (group_now j (omega (arith, same))) (go (eqb (suc i) (suc j)))))
         (each ∙ sym same)
       where
         go : (b : Bool) → (found b).n ≡ n
-        go true = same-n
+        go true = same_n
         go false = refl
 
-    refused-at : RefusedHalfWay number cs
-    refused-at =
-        let claim = page-claim p (opened_holds n e p o) (alone (suc i) cs) in
-        let before = of_among (suc i - 1) (λ j. number_stored now ss j ≡ 0) (λ j l. others-take j (omega (arith, inside)) (λ q. absurd (omega arith))) in
-        let first = claim.first-refuses ss (suc i) taken-now (among_below p.count i inside) (λ z. refusal (sym here-refuses ∙ z)) before in
-        let same = claim.refused ss (λ z. refusal (sym here-refuses ∙ sym first.0 ∙ z)) in
-        (first.0 ∙ here-refuses, λ x. record { group = first.1 x; page = same.0 x; pulses = same.1 x }, others-take)
+    refused_at : RefusedHalfWay number cs
+    refused_at =
+        let claim = page_claim p (opened_holds n e p o) (alone (suc i) cs) in
+        let before = of_among (suc i - 1) (λ j. number_stored now ss j ≡ 0) (λ j l. others_take j (omega (arith, inside)) (λ q. absurd (omega arith))) in
+        let first = claim.first_refuses ss (suc i) taken_now (among_below p.count i inside) (λ z. refusal (sym here_refuses ∙ z)) before in
+        let same = claim.refused ss (λ z. refusal (sym here_refuses ∙ sym first.0 ∙ z)) in
+        (first.0 ∙ here_refuses, λ x. record { group = first.1 x; page = same.0 x; pulses = same.1 x }, others_take)
 
   -- as worn
-  pub worn-at : RefusedHalfWay 8 (wearing n own-symbol ∷ [])
-  worn-at =
+  pub worn_at : RefusedHalfWay 8 (wearing n own_symbol ∷ [])
+  worn_at =
       let r = ranges n e p o in
-      refused-at (wearing n own-symbol ∷ []) _ (wear-done n e r.0 r.1 own-symbol) refl 8 (worn-number n e r.0 r.1 own-symbol (there-at i inside)) (λ z. omega arith)
+      refused_at (wearing n own_symbol ∷ []) _ (wear_done n e r.0 r.1 own_symbol) refl 8 (worn_number n e r.0 r.1 own_symbol (there_at i inside)) (λ z. omega arith)
 
   -- and as spent
-  pub spent-at : e < (n - 1) + (n - 1) → RefusedHalfWay 19 (store_call own-symbol ∷ erasing ∷ [])
+  pub spent_at : e < (n - 1) + (n - 1) → RefusedHalfWay 19 (store_call own_symbol ∷ erasing ∷ [])
   unfolding pushed
-  spent-at short =
+  spent_at short =
       let r = ranges n e p o in
-      let l = there-at i inside in
-      refused-at (store_call own-symbol ∷ erasing ∷ []) _ (spent-reached n e r.0 r.1 own-symbol enough l) refl 19 (spent-number n e r.0 r.1 own-symbol enough l short) (λ z. omega arith)
+      let l = there_at i inside in
+      refused_at (store_call own_symbol ∷ erasing ∷ []) _ (spent_reached n e r.0 r.1 own_symbol enough l) refl 19 (spent_number n e r.0 r.1 own_symbol enough l short) (λ z. omega arith)

@@ -21,11 +21,11 @@ use Rattle.push_up.specs.WriteAnswer.{Program, told_written}
 use Rattle.engine.specs.ReadStore.{store_of}
 use Rattle.page.specs.declared.Page.{Page}
 use Rattle.page.specs.Groups.{total, put_each, first_refusing}
-use Rattle.page.specs.Pages.{group_at, is_page}
-use Rattle.page.proofs.Groups.{none-next}
-use Rattle.page.proofs.Pages.{back_one, group_at_lem, page-not, page-done, page-refused, page_most}
+use Rattle.page.specs.Pages.{group_at_lem, is_page}
+use Rattle.page.proofs.Groups.{none_next}
+use Rattle.page.proofs.Pages.{back_one, group_at_lem, page_not, page_done, page_refused, page_most}
 use Rattle.page_store.specs.StoreAnswer.{symbol_at, takes, number_stored, group_stored, pulses_stored, all_stored, none_stored, store_page_of}
-use Rattle.page_store.proofs.Pulses.{store-pulses}
+use Rattle.page_store.proofs.Pulses.{store_pulses}
 
 symbol_at_lem : (ss : List ℕ) (k : ℕ) → get_or ss k 0 ≡ symbol_at ss (suc k)
 symbol_at_lem ss k = rw (back_one k)
@@ -66,53 +66,53 @@ store_start {p} {ss} w e =
 
 module _ {p : Page} {ss : List ℕ} {groups : List Group} {pulses k : ℕ} (h : StoredTo p ss groups pulses k) where
   module _ (l : k < p.count) (a : Written) (d : Group) (e : told_written a ≡ store_of (get_or p.groups k d) (get_or ss k 0)) where
-    store_same : told_written a ≡ store_of (group_at p (suc k)) (symbol_at ss (suc k))
+    store_same : told_written a ≡ store_of (group_at_lem p (suc k)) (symbol_at ss (suc k))
     store_same = e ∙ rw (group_at_lem p k d (omega (arith, h.long, h.most)), symbol_at_lem ss k)
 
-    store-number : number_stored p ss (suc k) ≡ outcome_number a.outcome
+    store_number : number_stored p ss (suc k) ≡ outcome_number a.outcome
     unfolding number_stored
-    store-number = sym (ap (λ (t : Told Program). t.number) store_same)
+    store_number = sym (ap (λ (t : Told Program). t.number) store_same)
 
-    pub pulses-low : length a.group.levels ≡ 12 → a.pulses ≤ 49140
-    pulses-low w =
+    pub pulses_low : length a.group.levels ≡ 12 → a.pulses ≤ 49140
+    pulses_low w =
         let same = ap (λ (t : Told Program). t.value.pulses) e in
-        omega (arith, same, store-pulses _ _ (sym (ap (λ (t : Told Program). length t.value.group.levels) e) ∙ w))
+        omega (arith, same, store_pulses _ _ (sym (ap (λ (t : Told Program). length t.value.group.levels) e) ∙ w))
 
-    pub store-more : length a.group.levels ≡ 12 → a.outcome ≡ Done → (more : ℕ) → more ≡ pulses + a.pulses → StoredTo p ss (set groups k a.group) more (k + 1)
+    pub store_more : length a.group.levels ≡ 12 → a.outcome ≡ Done → (more : ℕ) → more ≡ pulses + a.pulses → StoredTo p ss (set groups k a.group) more (k + 1)
     unfolding put_each total group_stored pulses_stored
-    store-more w o more sum =
+    store_more w o more sum =
         record {
           is_taken = h.is_taken;
           long = h.long;
           most = h.most;
           one_each = h.one_each;
           within = omega arith;
-          none = rw (add-one k) (none-next (number_stored p ss) k h.none (store-number ∙ ap outcome_number o));
+          none = rw (add-one k) (none_next (number_stored p ss) k h.none (store_number ∙ ap outcome_number o));
           held = rw (add-one k, h.held) (ap (λ (t : Told Program). set (put_each k (group_stored p ss) p.groups) k t.value.group) store_same);
           sum = rw (add-one k, sum, h.sum) (ap (λ (t : Told Program). total k (pulses_stored p ss) + t.value.pulses) store_same);
-          low = omega (arith, sum, h.low, pulses-low w);
+          low = omega (arith, sum, h.low, pulses_low w);
         }
 
-    pub store-refused-at : {r : Refusal} → a.outcome ≡ Refused r → (q : Page) (named : ℕ) → q ≡ p → named ≡ k + 1
+    pub store_refused_at : {r : Refusal} → a.outcome ≡ Refused r → (q : Page) (named : ℕ) → q ≡ p → named ≡ k + 1
         → record { number = outcome_number a.outcome; value = none_stored q named } ≡ store_page_of p ss
     unfolding store_page_of
-    store-refused-at {r} o q named same one =
-        rw (same, one, add-one k, ← store-number)
-        (page-refused (takes p ss) p.count (number_stored p ss) (all_stored p ss) (none_stored p) h.is_taken k l h.none
-        (λ z. not-zero r (sym (store-number ∙ ap outcome_number o) ∙ z)))
+    store_refused_at {r} o q named same one =
+        rw (same, one, add-one k, ← store_number)
+        (page_refused (takes p ss) p.count (number_stored p ss) (all_stored p ss) (none_stored p) h.is_taken k l h.none
+        (λ z. not-zero r (sym (store_number ∙ ap outcome_number o) ∙ z)))
 
-  pub store-end : p.count ≤ k
+  pub store_end : p.count ≤ k
       → record { number = 0; value = record { group = 0; page = record { count = p.count; groups = groups }; pulses = pulses } } ≡ store_page_of p ss
   unfolding store_page_of
-  store-end m =
+  store_end m =
       let e : k ≡ p.count = omega (arith, h.within) in
-      rw (h.held, h.sum, e) (page-done (takes p ss) p.count (number_stored p ss) (all_stored p ss) (none_stored p) h.is_taken (rw e at h.none))
+      rw (h.held, h.sum, e) (page_done (takes p ss) p.count (number_stored p ss) (all_stored p ss) (none_stored p) h.is_taken (rw e at h.none))
 
 -- ---- a record that is no page, or symbols for another
 
 pub store_not : (p : Page) (ss : List ℕ) → takes p ss ≡ false → record { number = refusal_number NoPage; value = none_stored p 0 } ≡ store_page_of p ss
 unfolding store_page_of
-store_not p ss e = page-not (takes p ss) p.count (number_stored p ss) (all_stored p ss) (none_stored p) e
+store_not p ss e = page_not (takes p ss) p.count (number_stored p ss) (all_stored p ss) (none_stored p) e
 
 pub not_taken : (p : Page) (ss : List ℕ) → is_page p ≡ false → takes p ss ≡ false
 unfolding takes

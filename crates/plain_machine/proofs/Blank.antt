@@ -4,7 +4,7 @@ use mathlib.Core.Path.{◌≡◌, ap, ◌∙◌}
 use mathlib.Core.Bool.{true, false}
 use Rattle.order.specs.declared.Refusal.TheVariants.{Blank}
 use Rattle.order.specs.Refusals.{number_of, answer}
-use Rattle.order.proofs.Refusals.{check-fails, later-decide}
+use Rattle.order.proofs.Refusals.{check_fails, later_decide}
 use Rattle.group.specs.declared.Group.{Group}
 use Rattle.group.specs.Record.{group_checks, IsGroup}
 use Rattle.push_up.specs.WriteAnswer.{Program, pushed}
@@ -25,6 +25,6 @@ module _ (g : Group) (c : Call) (h : IsGroup g) (w : writes c.kind ≡ true) (m 
   unfolding pushed
   unmarked = ap (λ (p : Program). p.group.written) (apply_pushed g c w e) ∙ m
 
-  pub shared-blank : ((read_of after).number ≡ 6) × ((scrub_of after).number ≡ 6)
+  pub shared_blank : ((read_of after).number ≡ 6) × ((scrub_of after).number ≡ 6)
   unfolding read_of scrub_of answer
-  shared-blank = (later-decide _ (group_checks after) passes ∙ check-fails Blank _ unmarked, later-decide _ (group_checks after) passes ∙ check-fails Blank _ unmarked)
+  shared_blank = (later_decide _ (group_checks after) passes ∙ check_fails Blank _ unmarked, later_decide _ (group_checks after) passes ∙ check_fails Blank _ unmarked)

@@ -13,11 +13,11 @@ use Rattle.order.specs.declared.Refusal.TheVariants.{ListShort, NoOrder, RankSiz
 use Rattle.order.specs.Refusals.{number_of, if_done, Told, answer}
 use Rattle.order.specs.Cells.{is_order}
 use Rattle.order.specs.Order.{listed}
-use Rattle.order.proofs.Refusals.{check_held, later-decide, all_held}
-use Rattle.order.proofs.Check.{order-parts}
+use Rattle.order.proofs.Refusals.{check_held, later_decide, all_held}
+use Rattle.order.proofs.Check.{order_parts}
 use Rattle.coordinates.specs.Conversion.{coordinate_at}
 use Rattle.coordinates.proofs.RoundTrip.{order_of_any}
-use Rattle.decoder.proofs.Decoding.{exchange-order}
+use Rattle.decoder.proofs.Decoding.{exchange_order}
 use Rattle.code.specs.Words.{word_at}
 use Rattle.code.specs.Symbols.{word_of, Reading, no_reading}
 use Rattle.group.specs.declared.Group.{Group}
@@ -28,19 +28,19 @@ use Rattle.group.specs.Record.{group_checks, IsGroup, with_levels, with_caps, er
 use Rattle.push_up.specs.WriteAnswer.{Program, write_checks, push_array, raised, fits, lasts, push_checks, pushed, unpushed, write_of}
 use Rattle.changes.specs.Changes.{cell_checks, wear_checks, leak_of, wear_of, erase_of}
 use Rattle.group.proofs.Levels.{at_most_refl, at_most_true, rises_down, leaked_below}
-use Rattle.group.proofs.Checks.{checked-size}
+use Rattle.group.proofs.Checks.{checked_size}
 use Rattle.group.proofs.Groups.{by_number_lem}
 use Rattle.changes.proofs.Groups.{leak_group, wear_group, erase_group}
 use Rattle.push_up.proofs.Orders.{TargetOf, order_target}
 use Rattle.push_up.proofs.Writes.{push_held, pushes_few, write_group, raised_shows}
 use Rattle.push_up.specs.PushProgram.{counted, IsPushProgram}
-use Rattle.push_up.proofs.Programs.{counted-pulses, counted-program, no_pushes}
+use Rattle.push_up.proofs.Programs.{counted_pulses, counted_program, no_pushes}
 use Rattle.sharing.specs.declared.Ranked.{Ranked}
 use Rattle.sharing.specs.Shared.{shared_target, shared_checks, write_shared_of}
 use Rattle.sharing.proofs.Targets.{shared_target_lem}
 use Rattle.sharing.proofs.Ones.{shared_group}
 use Rattle.push_room.specs.Room.{into_checks, write_into_of, shared_into_checks, write_shared_into_of}
-use Rattle.push_room.proofs.Answers.{into-answer, shared-into-answer, into-group}
+use Rattle.push_room.proofs.Answers.{into_answer, shared_into_answer, into_group}
 use Rattle.push_list.specs.LentWrite.{Carried, carried_of}
 use Rattle.sensing.proofs.Sensed.{sensed_order_lem}
 use Rattle.plain_machine.specs.declared.Kind.{Kind}
@@ -48,8 +48,8 @@ use Rattle.plain_machine.specs.declared.Kind.TheVariants.{Write, WriteInto, Writ
 use Rattle.plain_machine.specs.declared.Call.{Call}
 use Rattle.engine.specs.ReadStore.{sensed_order, place_read, read_checks, reading_of, read_of, store_checks, store_of}
 use Rattle.engine.specs.Scrub.{Step, quiet, programmed_step, word_found, scrub_of, after_read}
-use Rattle.engine.proofs.Holds.{store-group}
-use Rattle.engine.proofs.Scrubs.{scrub-group}
+use Rattle.engine.proofs.Holds.{store_group}
+use Rattle.engine.proofs.Scrubs.{scrub_group}
 use Rattle.plain_machine.specs.Machine.{writes, marks, target_by, target, checks_by, checks, earlier_by, earlier_checks, after_program, after_change, apply_by, apply_of}
 
 -- ---- answers
@@ -91,9 +91,9 @@ accept_pushed g a Read w = absurd (false≢true w)
 
 -- an answer's value, and what is made of it
 module _ (list : List (Bool × Refusal)) (g : Group) where
-  after-program : (p : Program) (s : ℕ) → after_program (answer list p (unpushed g)) s ≡ answer list (programmed_step p s none) (quiet g)
+  after_program_lem : (p : Program) (s : ℕ) → after_program (answer list p (unpushed g)) s ≡ answer list (programmed_step p s none) (quiet g)
   unfolding answer
-  after-program p s = go (number_of list)
+  after_program_lem p s = go (number_of list)
     where
       go : (k : ℕ)
           → ◌≡◌ {A = Told Step} (record { number = k; value = programmed_step (if_done k p (unpushed g)) (if_done k s 0) none })
@@ -101,9 +101,9 @@ module _ (list : List (Bool × Refusal)) (g : Group) where
       go zero = refl
       go (suc k) = refl
 
-  after-change : (h : Group) → after_change (answer list h g) ≡ answer list (quiet h) (quiet g)
+  after_change_lem : (h : Group) → after_change (answer list h g) ≡ answer list (quiet h) (quiet g)
   unfolding answer
-  after-change h = go (number_of list)
+  after_change_lem h = go (number_of list)
     where
       go : (k : ℕ) → ◌≡◌ {A = Told Step} (record { number = k; value = quiet (if_done k h g) }) (record { number = k; value = if_done k (quiet h) (quiet g) })
       go zero = refl
@@ -119,15 +119,15 @@ module _ (list : List (Bool × Refusal)) (g : Group) where
 
 apply_by_lem : (g : Group) (a : Ranked) (k : Kind) → apply_by g a k ≡ answer (checks_by g a k) (accept_by g a k) (quiet g)
 unfolding write_of write_into_of write_shared_of write_shared_into_of store_of scrub_of leak_of wear_of erase_of read_of
-apply_by_lem g a Write = after-program (write_checks g a.cells) g _ _
-apply_by_lem g a (WriteInto room) = after-program (into_checks g a.cells room) g _ _
-apply_by_lem g a WriteShared = after-program (shared_checks g a) g _ _
-apply_by_lem g a (WriteSharedInto room) = after-program (shared_into_checks g a room) g _ _
-apply_by_lem g a (Store s) = after-program (store_checks g s) g _ _
+apply_by_lem g a Write = after_program_lem (write_checks g a.cells) g _ _
+apply_by_lem g a (WriteInto room) = after_program_lem (into_checks g a.cells room) g _ _
+apply_by_lem g a WriteShared = after_program_lem (shared_checks g a) g _ _
+apply_by_lem g a (WriteSharedInto room) = after_program_lem (shared_into_checks g a room) g _ _
+apply_by_lem g a (Store s) = after_program_lem (store_checks g s) g _ _
 apply_by_lem g a Scrub = refl
-apply_by_lem g a (Leak c d) = after-change (cell_checks g c) g _
-apply_by_lem g a (Wear c cap) = after-change (wear_checks g c cap) g _
-apply_by_lem g a Erase = after-change (group_checks g) g _
+apply_by_lem g a (Leak c d) = after_change_lem (cell_checks g c) g _
+apply_by_lem g a (Wear c cap) = after_change_lem (wear_checks g c cap) g _
+apply_by_lem g a Erase = after_change_lem (group_checks g) g _
 apply_by_lem g a Read = after_read (read_checks g) g _
 
 pub apply_number : (g : Group) (c : Call) → (apply_of g c).number ≡ number_of (checks g c)
@@ -166,11 +166,11 @@ same_group g c = rw (apply_number g c, apply_value g c) (go (number_of (checks g
 
 group_by : (g : Group) (a : Ranked) (k : Kind) → IsGroup g → IsGroup (apply_by g a k).value.group
 group_by g a Write h = write_group g a.cells h
-group_by g a (WriteInto room) h = into-group (into-answer g room a.cells) h
+group_by g a (WriteInto room) h = into_group (into_answer g room a.cells) h
 group_by g a WriteShared h = shared_group g a h
-group_by g a (WriteSharedInto room) h = into-group (shared-into-answer g room a) h
-group_by g a (Store s) h = store-group g s h
-group_by g a Scrub h = scrub-group g h
+group_by g a (WriteSharedInto room) h = into_group (shared_into_answer g room a) h
+group_by g a (Store s) h = store_group g s h
+group_by g a Scrub h = scrub_group g h
 group_by g a (Leak c d) h = leak_group g c d h
 group_by g a (Wear c cap) h = wear_group g c cap h
 group_by g a Erase h = erase_group g h
@@ -190,21 +190,21 @@ module _ (g : Group) (c : Call) (w : writes c.kind ≡ true) where
   unfolding last
   split = ap (λ (b : Bool). number_of (earlier_checks g c ++ cond b last [])) w
 
-  pub last-decide : number_of (earlier_checks g c) ≡ 0 → number_of (checks g c) ≡ number_of (push_checks g (target g c))
+  pub last_decide : number_of (earlier_checks g c) ≡ 0 → number_of (checks g c) ≡ number_of (push_checks g (target g c))
   unfolding last
-  last-decide e = split ∙ later-decide last (earlier_checks g c) e
+  last_decide e = split ∙ later_decide last (earlier_checks g c) e
 
-  pub done-pushes : number_of (earlier_checks g c) ≡ 0 → number_of (push_checks g (target g c)) ≡ 0 → number_of (checks g c) ≡ 0
-  done-pushes e f = last-decide e ∙ f
+  pub done_pushes : number_of (earlier_checks g c) ≡ 0 → number_of (push_checks g (target g c)) ≡ 0 → number_of (checks g c) ≡ 0
+  done_pushes e f = last_decide e ∙ f
 
   -- a write that is done passed them all: no new level is above its cap, and the endurance lasts
-  pub done-checks : number_of (checks g c) ≡ 0 → (number_of (earlier_checks g c) ≡ 0) × (number_of (push_checks g (target g c)) ≡ 0)
+  pub done_checks : number_of (checks g c) ≡ 0 → (number_of (earlier_checks g c) ≡ 0) × (number_of (push_checks g (target g c)) ≡ 0)
   unfolding last
-  done-checks e = all_held last (earlier_checks g c) (sym split ∙ e)
+  done_checks e = all_held last (earlier_checks g c) (sym split ∙ e)
 
   pub done_held : number_of (checks g c) ≡ 0 → AtMost (raised g (target g c)) g.caps × (lasts g (target g c) ≡ true)
   unfolding fits
-  done_held e = let t = push_held g (target g c) (done-checks e).1 in (at_most_true _ _ t.0, t.1)
+  done_held e = let t = push_held g (target g c) (done_checks e).1 in (at_most_true _ _ t.0, t.1)
 
 -- ---- targets
 
@@ -226,14 +226,14 @@ pub target_order : (g : Group) (a : Ranked) (k : Kind) → marks k ≡ true → 
 unfolding word_of
 target_order g a Write w e =
     let t = all_held _ (group_checks g) e in
-    (listed a.cells, (order-parts g.n a.cells (check_held _ NoOrder [] t.1).0).1.order, refl)
+    (listed a.cells, (order_parts g.n a.cells (check_held _ NoOrder [] t.1).0).1.order, refl)
 target_order g a (WriteInto room) w e =
     let t = check_held _ ListShort _ (all_held _ (group_checks g) e).1 in
-    (listed a.cells, (order-parts g.n a.cells (check_held _ NoOrder [] t.1).0).1.order, refl)
+    (listed a.cells, (order_parts g.n a.cells (check_held _ NoOrder [] t.1).0).1.order, refl)
 target_order g a WriteShared w e = absurd (false≢true w)
 target_order g a (WriteSharedInto room) w e = absurd (false≢true w)
 target_order g a (Store s) w e = (word_of g.n s, order_of_any (coordinate_at (word_at g.n s)) g.n, refl)
-target_order g a Scrub w e = (word_found g, exchange-order g.n (sensed_order g) (sensed_order_lem g.n g.levels) (place_read g), refl)
+target_order g a Scrub w e = (word_found g, exchange_order g.n (sensed_order g) (sensed_order_lem g.n g.levels) (place_read g), refl)
 target_order g a (Leak c d) w e = absurd (false≢true w)
 target_order g a (Wear c cap) w e = absurd (false≢true w)
 target_order g a Erase w e = absurd (false≢true w)
@@ -291,14 +291,14 @@ abbrev carried : Step → List Push
 carried s = counted s.count s.pushes
 
 module _ (g : Group) (a : Ranked) (twelve : length g.levels ≡ 12) where
-  target-program : (k : Kind) → writes k ≡ true → number_of (earlier_by g a k) ≡ 0
+  target_program : (k : Kind) → writes k ≡ true → number_of (earlier_by g a k) ≡ 0
       → let p = pushed (marks k) g (target_by g a k) in IsPushProgram (counted p.count p.pushes) g.levels p.group.levels
-  target-program k w e =
-      counted-program (marks k) g _ (target_of g a k w e) (omega (arith, twelve, checked-size g (checked_group g a k w e)))
+  target_program k w e =
+      counted_program (marks k) g _ (target_of g a k w e) (omega (arith, twelve, checked_size g (checked_group g a k w e)))
 
-  accept-program : (k : Kind) → writes k ≡ true → number_of (earlier_by g a k) ≡ 0 → IsPushProgram (carried (accept_by g a k)) g.levels (accept_by g a k).group.levels
-  accept-program k w e =
-      subst (λ (p : Program). IsPushProgram (counted p.count p.pushes) g.levels p.group.levels) (sym (accept_pushed g a k w)) (target-program k w e)
+  accept_program : (k : Kind) → writes k ≡ true → number_of (earlier_by g a k) ≡ 0 → IsPushProgram (carried (accept_by g a k)) g.levels (accept_by g a k).group.levels
+  accept_program k w e =
+      subst (λ (p : Program). IsPushProgram (counted p.count p.pushes) g.levels p.group.levels) (sym (accept_pushed g a k w)) (target_program k w e)
 
 -- the answer to a call that raises cells, also one that is refused, carries a push program from the levels that it found to those that it left
 pub apply_program : (g : Group) (c : Call) → length g.levels ≡ 12 → writes c.kind ≡ true
@@ -306,17 +306,17 @@ pub apply_program : (g : Group) (c : Call) → length g.levels ≡ 12 → writes
 apply_program g c twelve w =
     rw (apply_value g c)
     (by_number_lem (λ (s : Step). IsPushProgram (carried s) g.levels s.group.levels) (number_of (checks g c)) (accept g c) (quiet g)
-    (λ e. accept-program g c.target twelve c.kind w (done-checks g c w e).0) (no_pushes g.levels))
+    (λ e. accept_program g c.target twelve c.kind w (done_checks g c w e).0) (no_pushes g.levels))
 
 -- the pulses of any answer are those of the pushes that it carries
 accept_pulses : (g : Group) (a : Ranked) (k : Kind) → (accept_by g a k).pulses ≡ pulses_in (carried (accept_by g a k))
 unfolding pulses_in
-accept_pulses g a Write = counted-pulses true g _
-accept_pulses g a (WriteInto room) = counted-pulses true g _
-accept_pulses g a WriteShared = counted-pulses false g _
-accept_pulses g a (WriteSharedInto room) = counted-pulses false g _
-accept_pulses g a (Store s) = counted-pulses true g _
-accept_pulses g a Scrub = counted-pulses true g _
+accept_pulses g a Write = counted_pulses true g _
+accept_pulses g a (WriteInto room) = counted_pulses true g _
+accept_pulses g a WriteShared = counted_pulses false g _
+accept_pulses g a (WriteSharedInto room) = counted_pulses false g _
+accept_pulses g a (Store s) = counted_pulses true g _
+accept_pulses g a Scrub = counted_pulses true g _
 accept_pulses g a (Leak c d) = refl
 accept_pulses g a (Wear c cap) = refl
 accept_pulses g a Erase = refl

@@ -1,7 +1,7 @@
 -- Arrays of plain data in a walk by hand. It says nothing of the crate.
 --   slot_apart             a local array, whose slot holds one machine value v, is its elements side by side in memory
---   slot-some, slot_whole  and back: at some machine value of the elements; at v, where v is theirs
---   items-are, are-items   an array of records in a struct's field has their tuples for its denotation, as an array of its own the records: the
+--   slot_some, slot_whole  and back: at some machine value of the elements; at v, where v is theirs
+--   items_are, are_items   an array of records in a struct's field has their tuples for its denotation, as an array of its own the records: the
 --                          machine value is the same
 -- Assumes `Logic`.
 use mathlib.Core.Path.{◌≡◌, refl, sym, ap, subst, ◌∙◌}
@@ -49,9 +49,9 @@ module _ {M : Type 1} {𝓤 : Ura M} (𝓛 : Logic 𝓤) (R : RattleType) (n : �
     abbrev Whole : Val → SProp 𝓤
     Whole v = guard 𝓤 (Is (Array R n) xs (v ∷ [])) (H.at full_share slot b 0 v)
 
-    pub slot-some : length xs ≡ n → ent 𝓤 (sem 𝓛 (row R full_share xs b 0)) (ex 𝓤 Whole)
+    pub slot_some : length xs ≡ n → ent 𝓤 (sem 𝓛 (row R full_share xs b 0)) (ex 𝓤 Whole)
     unfolding part_of
-    slot-some counted =
+    slot_some counted =
         let v = only (array_vals vals xs) in
         qed 𝓛 (‵ (row R full_share xs b 0) ∷ []) ∵ feq_i ! ℕ (length xs) n counted $ fjoin ! $
         use1 𝓛 (‵ (part_at (Array R n) full_share xs b 0)) (Array-whole 𝓛 R full_share n xs b 0) $
@@ -63,33 +63,33 @@ module _ {M : Type 1} {𝓤 : Ura M} (𝓛 : Logic 𝓤) (R : RattleType) (n : �
     pub slot_whole : (v : Val) → Is (Array R n) xs (v ∷ []) → ent 𝓤 (sem 𝓛 (row R full_share xs b 0)) (H.at full_share slot b 0 v)
     slot_whole v is =
         qed 𝓛 (‵ (row R full_share xs b 0) ∷ []) ∵
-        use1 𝓛 (some (λ (u : Val). given (Is (Array R n) xs (u ∷ [])) (‵ (fat full_share slot b 0 u)))) (slot-some is.1.0.1) $ pick ! (λ u. learn ! (λ is'.
+        use1 𝓛 (some (λ (u : Val). given (Is (Array R n) xs (u ∷ [])) (‵ (fat full_share slot b 0 u)))) (slot_some is.1.0.1) $ pick ! (λ u. learn ! (λ is'.
         rewrite ! 0 (λ (w : Val). ‵ (fat full_share slot b 0 w))
         (ap only (Array-Tells R vals tells n xs (u ∷ []) is' ∙ sym (Array-Tells R vals tells n xs (v ∷ []) is))) refl $ done !))
 
 -- ---- an array in a struct's field
 
 module _ (T : Declared) where
-  abbrev each-record : List T.D → List Val → Type 0
-  each-record xs us = shadow (each T.D (record-row T).own_val xs us)
+  abbrev each_record : List T.D → List Val → Type 0
+  each_record xs us = shadow (each T.D (record-row T).own_val xs us)
 
-  abbrev each-tuple : List T.D → List Val → Type 0
-  each-tuple xs us = shadow (each (field T).row.Denot (field T).row.own_val (map T.to xs) us)
+  abbrev each_tuple : List T.D → List Val → Type 0
+  each_tuple xs us = shadow (each (field T).row.Denot (field T).row.own_val (map T.to xs) us)
 
-  each-are : (xs : List T.D) (us : List Val) → each-tuple xs us → each-record xs us
-  each-are [] [] s = s
-  each-are [] (u ∷ us) s = s
-  each-are (x ∷ xs) [] s = s
-  each-are (x ∷ xs) (u ∷ us) s = (s.0, each-are xs us s.1)
+  each_are : (xs : List T.D) (us : List Val) → each_tuple xs us → each_record xs us
+  each_are [] [] s = s
+  each_are [] (u ∷ us) s = s
+  each_are (x ∷ xs) [] s = s
+  each_are (x ∷ xs) (u ∷ us) s = (s.0, each_are xs us s.1)
 
-  are-each : (xs : List T.D) (us : List Val) → each-record xs us → each-tuple xs us
-  are-each [] [] s = s
-  are-each [] (u ∷ us) s = s
-  are-each (x ∷ xs) [] s = s
-  are-each (x ∷ xs) (u ∷ us) s = (s.0, are-each xs us s.1)
+  are_each : (xs : List T.D) (us : List Val) → each_record xs us → each_tuple xs us
+  are_each [] [] s = s
+  are_each [] (u ∷ us) s = s
+  are_each (x ∷ xs) [] s = s
+  are_each (x ∷ xs) (u ∷ us) s = (s.0, are_each xs us s.1)
 
-  pub items-are : (n : ℕ) (xs : List T.D) (vs : List Val) → Is (Array (field T).row n) (map T.to xs) vs → Is (Array (record-row T) n) xs vs
-  items-are n xs vs is = (is.0, ((is.1.0.0, sym (length-map xs T.to) ∙ is.1.0.1), each-are xs is.0 is.1.1))
+  pub items_are : (n : ℕ) (xs : List T.D) (vs : List Val) → Is (Array (field T).row n) (map T.to xs) vs → Is (Array (record-row T) n) xs vs
+  items_are n xs vs is = (is.0, ((is.1.0.0, sym (length-map xs T.to) ∙ is.1.0.1), each_are xs is.0 is.1.1))
 
-  pub are-items : (n : ℕ) (xs : List T.D) (vs : List Val) → Is (Array (record-row T) n) xs vs → Is (Array (field T).row n) (map T.to xs) vs
-  are-items n xs vs is = (is.0, ((is.1.0.0, length-map xs T.to ∙ is.1.0.1), are-each xs is.0 is.1.1))
+  pub are_items : (n : ℕ) (xs : List T.D) (vs : List Val) → Is (Array (record-row T) n) xs vs → Is (Array (field T).row n) (map T.to xs) vs
+  are_items n xs vs is = (is.0, ((is.1.0.0, length-map xs T.to ∙ is.1.0.1), are_each xs is.0 is.1.1))

@@ -30,7 +30,7 @@ use denote.Triple.Statement.{Contract, Triple}
 use denote.Triple.Walked.{says}
 use Rattle.push_up.specs.declared.Push.{Push}
 use Rattle.push_list.specs.LentWrite.{filled}
-use Rattle.push_list.proofs.Pushes.{R, Pushes, all-make}
+use Rattle.push_list.proofs.Pushes.{R, Pushes, all_make}
 use Rattle.push_list.proofs.Walking.{Callee}
 use Rattle.push_list.specs.contracts.fill as fill
 use Rattle.push_list.proofs.fill.Symbol.{name as #fill}
@@ -57,7 +57,7 @@ module _ {M : Type 1} {𝓤 : Ura M} (𝓛 : Logic 𝓤) (κ : Lft) (b o : ℕ) 
     asks =
         qed 𝓛 ((‵ (flft κ q) ⊛ ‵ ftrue) ∷ ‵ ((MutSlice (named 0) κ R).own_val list (s ∷ [])) ∷ []) ∵ says ! within $ frame ! $ nothing ! $
         owned ! usize (Is usize) (uint_Makes 𝓛 w64) count (vint w64 count ∷ []) (refl, fits) $ fjoin ! $
-        owned ! (Pushes 11) (Is (Pushes 11)) (all-make 𝓛 11) xs (v ∷ []) is $
+        owned ! (Pushes 11) (Is (Pushes 11)) (all_make 𝓛 11) xs (v ∷ []) is $
         fjoin ! $ move ! (1 ∷ 0 ∷ []) $ fjoin ! $ done !
 
     pub calls_fill : {K : Type 0} {Γ : List (Item 𝓤)} {E : Env 𝓤 H} {C : Calls 𝓤 H} {Λ : Loops 𝓤 H} {p : Post 𝓤 H} {ops : List Operand} {d : Place} {rest : Body}

@@ -56,11 +56,11 @@ use Rattle.push_room.proofs.Answers.{AnswerInto, into_few}
 use Rattle.push_list.specs.declared.Plan.{Plan}
 use Rattle.push_list.specs.LentWrite.{carried_of, told_into, filled, list_after}
 use Rattle.push_list.specs.Steps.{told_plan}
-use Rattle.push_list.proofs.Arrays.{items-are}
+use Rattle.push_list.proofs.Arrays.{items_are}
 use Rattle.push_list.proofs.FillCall.{Fill, calls_fill}
 use Rattle.push_list.proofs.Written.{filled_by, list_filled}
 use Rattle.push_list.proofs.Pushes.{R, Pushes, all_typed}
-use Rattle.push_list.proofs.Walking.{local, local-field, args2, args3, sets, lands-in, free-cell, has, Callee, calls-value}
+use Rattle.push_list.proofs.Walking.{local, local_field, args2, args3, sets, lands_in, free_cell, has, Callee, calls_value}
 use Rattle.push_list.specs.contracts.Plan as Plan'
 use Rattle.push_list.proofs.Plan.TheLaws as Plan''
 use Rattle.push_list.specs.contracts.WrittenInto as Answer'
@@ -84,33 +84,33 @@ list_slot = SliceRefMutOf (0 ∷ []) tt (plain (λ _. R)) (λ κs. tt)
 
 -- what is known of a plan's fields, from the relation of its machine value
 module _ (r : Plan) (w : Val) (is : Is Plan'.the_row r (w ∷ [])) where
-  abbrev pushes-val : Val
-  pushes-val = (LL.array_laws Push'.the_field Push''.the_field_laws 11).val (map (Push'.the_type).to r.pushes)
+  abbrev pushes_val : Val
+  pushes_val = (LL.array_laws Push'.the_field Push''.the_field_laws 11).val (map (Push'.the_type).to r.pushes)
 
-  is-answer : Is Answer'.the_row r.answer (LL.vals Answer'.the_type Answer''.the_laws r.answer)
-  is-answer = (LL.owed Plan'.the_type Plan''.the_laws r (w ∷ []) is).0
+  is_answer : Is Answer'.the_row r.answer (LL.vals Answer'.the_type Answer''.the_laws r.answer)
+  is_answer = (LL.owed Plan'.the_type Plan''.the_laws r (w ∷ []) is).0
 
-  is-pushes : Is (Pushes 11) r.pushes (pushes-val ∷ [])
-  is-pushes = items-are Push'.the_type 11 r.pushes (pushes-val ∷ []) (LL.owed Plan'.the_type Plan''.the_laws r (w ∷ []) is).1.0
+  is_pushes : Is (Pushes 11) r.pushes (pushes_val ∷ [])
+  is_pushes = items_are Push'.the_type 11 r.pushes (pushes_val ∷ []) (LL.owed Plan'.the_type Plan''.the_laws r (w ∷ []) is).1.0
 
   count_fits : r.answer.count < 2 ^ 64
-  count_fits = (LL.owed Answer'.the_type Answer''.the_laws r.answer _ is-answer).1.1.1.0.1
+  count_fits = (LL.owed Answer'.the_type Answer''.the_laws r.answer _ is_answer).1.1.1.0.1
 
 module _ (T : Target) where
-  abbrev target-slot : {k : ℕ} → Slot k
-  target-slot = plain (λ _. row T.type)
+  abbrev target_slot : {k : ℕ} → Slot k
+  target_slot = plain (λ _. row T.type)
 
   -- ---- contracts
 
   abbrev deciding : Ended
   deciding = record {
-    signature = record { lifetimes = 0; outlives = []; params = group_slot ∷ target-slot ∷ plain (λ _. usize) ∷ []; result = plain (λ _. Plan'.the_row) };
+    signature = record { lifetimes = 0; outlives = []; params = group_slot ∷ target_slot ∷ plain (λ _. usize) ∷ []; result = plain (λ _. Plan'.the_row) };
     kept = (yes, (yes, (yes, tt)));
   }
 
   abbrev pub lending : Ended
   lending = record {
-    signature = record { lifetimes = 1; outlives = []; params = group_slot ∷ target-slot ∷ list_slot ∷ []; result = plain (λ _. Answer'.the_row) };
+    signature = record { lifetimes = 1; outlives = []; params = group_slot ∷ target_slot ∷ list_slot ∷ []; result = plain (λ _. Answer'.the_row) };
     kept = (yes, (yes, (yes, tt)));
   }
 
@@ -135,7 +135,7 @@ module _ (T : Target) where
     Decide 𝓛 = Callee 𝓛 deciding decides
 
   abbrev stayed : Stays lending.signature.params lending.kept
-  stayed = (stay_dropped group_slot yes, (stay_dropped target-slot yes, (gave_slice (0 ∷ []) tt (plain (λ _. R)), tt)))
+  stayed = (stay_dropped group_slot yes, (stay_dropped target_slot yes, (gave_slice (0 ∷ []) tt (plain (λ _. R)), tt)))
 
   -- ---- MIR
 
@@ -194,11 +194,11 @@ module _ (T : Target) where
     abbrev told : Told Program
     told = T.told g t (length ys)
 
-    abbrev to-decide : (Decide 𝓤 𝓛).Ghost
-    to-decide = ((tt, tt, tt, (g, (t, (length ys, tt))), (u ∷ [], (v ∷ [], (vint w64 (length ys) ∷ [], tt)))), tt)
+    abbrev to_decide : (Decide 𝓤 𝓛).Ghost
+    to_decide = ((tt, tt, tt, (g, (t, (length ys, tt))), (u ∷ [], (v ∷ [], (vint w64 (length ys) ∷ [], tt)))), tt)
 
-    asks-decide : ent 𝓤 (emp 𝓤) ((Decide 𝓤 𝓛).pre to-decide)
-    asks-decide =
+    asks_decide : ent 𝓤 (emp 𝓤) ((Decide 𝓤 𝓛).pre to_decide)
+    asks_decide =
         qed 𝓛 [] ∵ nothing ! $ nothing ! $ nothing ! $ owned ! usize (Is usize) (uint_Makes 𝓛 w64) (length ys) (vint w64 (length ys) ∷ []) (refl, room) $ fjoin ! $
         has ! T.type T.plains t v is-target $ fjoin ! $
         has ! Group'.the_type Group''.the_plain g u is-group $ fjoin ! $ move ! (1 ∷ 0 ∷ []) $ join ! $ done !
@@ -231,26 +231,26 @@ module _ (T : Target) where
           -- of what the parameters own, the list's borrow is kept, at the head, behind the token
           move ! (23 ∷ []) $ fsplit ! $ drop ! $ fsplit ! $ drop ! $ fsplit ! $ move ! (1 ∷ []) $ drop ! $ move ! (23 ∷ 0 ∷ []) $
           -- [the token; what list owns; _10; …; _9; …; _8; …; _7; …; _6; …; _5; …; _4; …; _3; …; _2; …; _1; …; room for _0; …]
-          sets ! 8 refl (of_opd ! (local-field ! 16 refl (sub ! 1 refl (whole !)))) (tt, record { fits = room }) $
-          calls-value ! fm deciding (decides 𝓤) known-decide to-decide asks-decide (λ r. told_plan r ≡ told) (λ r e. id⊢ 𝓤 _)
+          sets ! 8 refl (of_opd ! (local_field ! 16 refl (sub ! 1 refl (whole !)))) (tt, record { fits = room }) $
+          calls_value ! fm deciding (decides 𝓤) known-decide to_decide asks_decide (λ r. told_plan r ≡ told) (λ r e. id⊢ 𝓤 _)
           (args3 ! (local ! 21 refl) (local ! 19 refl) (local ! 9 refl)) (λ r w e is.
-          lands-in ! 14 refl ((LL.lawful Plan'.the_type Plan''.the_laws 𝓛).typed r _ is).0 $
+          lands_in ! 14 refl ((LL.lawful Plan'.the_type Plan''.the_laws 𝓛).typed r _ is).0 $
           -- the plan's machine value is written out, and its fields are read
           rewrite ! 14 (λ (x : Val). ‵ (fat full_share Plan''.mir l₄ 0 x)) (ap only (LL.tells Plan'.the_type Plan''.the_laws r (w ∷ []) is)) refl $
-          sets ! 12 refl (of_opd ! (local-field ! 14 refl (sub ! 1 refl (whole !)))) (all_typed 𝓛 11 r.pushes (pushes-val r w is) (is-pushes r w is)) $
+          sets ! 12 refl (of_opd ! (local_field ! 14 refl (sub ! 1 refl (whole !)))) (all_typed 𝓛 11 r.pushes (pushes_val r w is) (is_pushes r w is)) $
           sets ! 10 refl (of_opd ! (load ! (from ! (fld ! refl (fld ! refl (stop !)))) (look_in ! 14 (sub ! 3 refl (sub ! 0 refl (whole !))))))
           (tt, record { fits = count_fits r w is }) $
           sets ! 4 refl (addr ! (from ! (fld ! refl (hop ! (look_in ! 16 (sub ! 0 refl (whole !))) (stop !))))) (tt, tt) $
-          sets ! 2 refl (agg ! (args2 ! (local ! 4 refl) (local-field ! 16 refl (sub ! 1 refl (whole !))))) (tt, (tt, (record { fits = room }, tt))) $
-          calls_fill 𝓛 κ b o γ ys mem run q r.pushes (pushes-val r w is) r.answer.count (is-pushes r w is) (count_fits r w is) (within r e) ! fm known-fill
+          sets ! 2 refl (agg ! (args2 ! (local ! 4 refl) (local_field ! 16 refl (sub ! 1 refl (whole !))))) (tt, (tt, (record { fits = room }, tt))) $
+          calls_fill 𝓛 κ b o γ ys mem run q r.pushes (pushes_val r w is) r.answer.count (is_pushes r w is) (count_fits r w is) (within r e) ! fm known-fill
           (args3 ! (local ! 1 refl) (local ! 11 refl) (local ! 9 refl)) (λ zs z l.
           -- [the token; the list's last contents; _10; …]
-          lands-in ! 6 refl (tt, tt) $
-          sets ! 22 refl (of_opd ! (local-field ! 14 refl (sub ! 0 refl (whole !))))
-          ((LL.lawful Answer'.the_type Answer''.the_laws 𝓛).typed r.answer _ (is-answer r w is)).0 $
-          returns ! (look ! 22 refl) $ free-cell ! 22 refl refl $ free-cell ! 20 refl refl $ free-cell ! 18 refl refl $ free-cell ! 16 refl refl $ free-cell ! 14 refl refl $
-          free-cell ! 12 refl refl $ free-cell ! 10 refl refl $ free-cell ! 8 refl refl $ free-cell ! 6 refl refl $ free-cell ! 4 refl refl $ free-cell ! 2 refl refl $ free0 ! $
-          by ! (exits r zs e z l (is-answer r w is)))))))))))))))
+          lands_in ! 6 refl (tt, tt) $
+          sets ! 22 refl (of_opd ! (local_field ! 14 refl (sub ! 0 refl (whole !))))
+          ((LL.lawful Answer'.the_type Answer''.the_laws 𝓛).typed r.answer _ (is_answer r w is)).0 $
+          returns ! (look ! 22 refl) $ free_cell ! 22 refl refl $ free_cell ! 20 refl refl $ free_cell ! 18 refl refl $ free_cell ! 16 refl refl $ free_cell ! 14 refl refl $
+          free_cell ! 12 refl refl $ free_cell ! 10 refl refl $ free_cell ! 8 refl refl $ free_cell ! 6 refl refl $ free_cell ! 4 refl refl $ free_cell ! 2 refl refl $ free0 ! $
+          by ! (exits r zs e z l (is_answer r w is)))))))))))))))
 
   -- ---- the contract is met
 
@@ -272,6 +272,6 @@ module _ (T : Target) where
     pub meets : Meets 𝓛 lending.signature runs (closing 𝓛 lending (lends 𝓤))
     meets =
         let group = Goes-dropped 𝓛 1 group_slot yes (λ κs x f. refl) in
-        let target = Goes-dropped 𝓛 1 target-slot yes (λ κs. T.silent) in
+        let target = Goes-dropped 𝓛 1 target_slot yes (λ κs. T.silent) in
         let list = Goes-gave_slice 𝓛 1 0 tt (plain (λ _. R)) in
         walk_Meets 𝓛 lending stayed (group, (target, (list, tt))) (lends 𝓤) runs (WpFn-mono 𝓤 H 𝓛.laws 𝓣 (lent #decide)) walks

@@ -1,8 +1,8 @@
 -- The type `Push`, arrays of it and a lent list of it, as the walks need them.
 --   R, spelled, tells      its row; how a push is spelled as a machine value; its relation tells that value
 --   Pushes n, pushes n     an array of n, and that as a parameter
---   makes, typed           the relation gives what a push owns, and types its machine value; all-make, all_typed, the same of an array
---   last-shown             a list that is given up has for its last contents what the reference last showed
+--   makes, typed           the relation gives what a push owns, and types its machine value; all_make, all_typed, the same of an array
+--   last_shown             a list that is given up has for its last contents what the reference last showed
 -- Assumes `Logic`.
 use Prim.Native.Nat.{ℕ}
 use mathlib.Core.List.{[], List, ◌∷◌}
@@ -48,13 +48,13 @@ module _ {M : Type 1} {𝓤 : Ura M} (𝓛 : Logic 𝓤) where
   pub typed : (x : Push) (v : Val) → Is R x (v ∷ []) → T (has_ty P'.mir v) × WT v
   typed x v is = ((LL.lawful P.the_type P'.the_laws 𝓛).typed x (v ∷ []) is).0
 
-  pub all-make : (n : ℕ) → Makes 𝓛 (Pushes n) (Is (Pushes n))
-  all-make n = Array-Makes 𝓛 R makes n
+  pub all_make : (n : ℕ) → Makes 𝓛 (Pushes n) (Is (Pushes n))
+  all_make n = Array-Makes 𝓛 R makes n
 
   pub all_typed : (n : ℕ) (xs : List Push) (v : Val) → Is (Pushes n) xs (v ∷ []) → T (has_ty (ty_array P'.mir n) v) × WT v
   all_typed n xs v is = (Array-Typed R (LL.lawful P.the_type P'.the_laws 𝓛).typed n xs (v ∷ []) is).0
 
-  pub last-shown : (κ : Lft) (γ : GName) (zs : List Push) → ent 𝓤 (A.obs γ ((coded_holeys R).code (heres R zs))) (sem 𝓛 (finally R γ zs))
-  last-shown κ γ zs =
+  pub last_shown : (κ : Lft) (γ : GName) (zs : List Push) → ent 𝓤 (A.obs γ ((coded_holeys R).code (heres R zs))) (sem 𝓛 (finally R γ zs))
+  last_shown κ γ zs =
       let shown = (coded_holeys R).code (heres R zs) in
       via 𝓤 (A.res γ shown) (𝓛.names.obs-res γ shown) (res-finally 𝓛 (named 0) κ R γ zs)

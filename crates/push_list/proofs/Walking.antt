@@ -1,13 +1,13 @@
 -- Steps of a walk by hand. They say nothing of the crate.
---   local, local-field    a local is read; a field of it
+--   local, local_field    a local is read; a field of it
 --   args1, args2, args3   the operands of a call
---   sets, lands-in        a local that was never written takes a value: of a right side; of a call
+--   sets, lands_in        a local that was never written takes a value: of a right side; of a call
 --   whiles                the test of a `while`: where it holds the rest of the turn runs, where it fails the loop is left
---   free-cell, free-room  a local is freed at its place in the context: it holds a value; it was never written. The right to free it stands right
+--   free_cell, free_room  a local is freed at its place in the context: it holds a value; it was never written. The right to free it stands right
 --                         after it, as the allocations leave it, and the locals are freed from the first to the last
 --   has                   what a declared struct of plain data owns is had for nothing
 --   Callee                the triple of a contract
---   calls-value           a call of a function whose parameters and result are plain data: nothing is given up for it, and then the walk has the
+--   calls_value           a call of a function whose parameters and result are plain data: nothing is given up for it, and then the walk has the
 --                         result, what the callee ensures of it, and the relation of its machine value. The operands are read with what the
 --                         callee asks at the head of the context, so each position is one higher
 -- Assumes `Logic`, and for a call that the table of calls is monotone under a frame, as every `Tables` is.
@@ -52,9 +52,9 @@ module _ {M : Type 1} {𝓤 : Ura M} {𝓛 : Logic 𝓤} {K : Type 0} {Γ : List
       → Opd K 𝓛 Γ E (copy (place i [])) v
   local t n e = load t (from t (stop t)) (look t n e)
 
-  pub local-field : K → (n : ℕ) {i k : ℕ} {q : Share} {τ : Ty} {d : ℕ} {v : Val} {back : Val → Item 𝓤} → field_of (spot_of 𝓤 H E i).0 k ≡ found (τ, d)
+  pub local_field : K → (n : ℕ) {i k : ℕ} {q : Share} {τ : Ty} {d : ℕ} {v : Val} {back : Val → Item 𝓤} → field_of (spot_of 𝓤 H E i).0 k ≡ found (τ, d)
       → Part K 𝓛 (nth 𝓛 n Γ) q τ (spot_of 𝓤 H E i).1 ((spot_of 𝓤 H E i).2 + d) v back → Opd K 𝓛 Γ E (copy (place i (field k ∷ []))) v
-  local-field t n e p = load t (from t (fld t e (stop t))) (look_in t n p)
+  local_field t n e p = load t (from t (fld t e (stop t))) (look_in t n p)
 
   pub args1 : K → {x : Operand} {u : Val} → Opd K 𝓛 Γ E x u → Opds K 𝓛 Γ E (x ∷ []) (u ∷ [])
   args1 t a = and_then t a (no_more t)
@@ -72,11 +72,11 @@ module _ {M : Type 1} {𝓤 : Ura M} {𝓛 : Logic 𝓤} {K : Type 0} {Γ : List
         Γ (runs C Λ E (seq (assign (place i []) rv) rest) q)
     sets t n e r wt = assigns t r (from t (stop t)) (init t n e wt)
 
-    pub lands-in : K → (n : ℕ) {i : ℕ} {rest : Body} {v : Val}
+    pub lands_in : K → (n : ℕ) {i : ℕ} {rest : Body} {v : Val}
         → nth 𝓛 n Γ ≡ ‵ (froom (spot_of 𝓤 H E i).0 (spot_of 𝓤 H E i).1 (spot_of 𝓤 H E i).2) → T (has_ty (spot_of 𝓤 H E i).0 v) × WT v
         → Step K 𝓛 (put 𝓛 n (‵ (fat full_share (spot_of 𝓤 H E i).0 (spot_of 𝓤 H E i).1 (spot_of 𝓤 H E i).2 v)) Γ) (runs C Λ E rest q)
         Γ (lands C Λ E (place i []) v rest q)
-    lands-in t n e wt = land t (from t (stop t)) (init t n e wt)
+    lands_in t n e wt = land t (from t (stop t)) (init t n e wt)
 
 -- ---- the test of a loop
 
@@ -98,9 +98,9 @@ is_there {𝓤 = 𝓤} 𝓛 {i} e = subst (λ (k : Item 𝓤). ent 𝓤 (mean �
 module _ {M : Type 1} {𝓤 : Ura M} {𝓛 : Logic 𝓤} {K : Type 0} {Γ : List (Item 𝓤)} {E : Env 𝓤 𝓛.H} {g : Goal 𝓤 𝓛.H} where
   open 𝓛 use {H}
 
-  free-at : (n : ℕ) {τ : Ty} {b : ℕ} → ent 𝓤 (mean 𝓛 (nth 𝓛 n Γ)) (H.room τ b zero) → nth 𝓛 n (del 𝓛 n Γ) ≡ ‵ (fdies τ b)
+  free_at : (n : ℕ) {τ : Ty} {b : ℕ} → ent 𝓤 (mean 𝓛 (nth 𝓛 n Γ)) (H.room τ b zero) → nth 𝓛 n (del 𝓛 n Γ) ≡ ‵ (fdies τ b)
       → Step K 𝓛 (del 𝓛 n (del 𝓛 n Γ)) (frees E g) Γ (frees ((τ, b) ∷ E) g)
-  free-at n {τ} {b} to_room e =
+  free_at n {τ} {b} to_room e =
       let rest = ⋆ 𝓛 (del 𝓛 n Γ) in
       let last = ⋆ 𝓛 (del 𝓛 n (del 𝓛 n Γ)) in
       step (λ s. record {
@@ -113,13 +113,13 @@ module _ {M : Type 1} {𝓤 : Ura M} {𝓛 : Logic 𝓤} {K : Type 0} {Γ : List
             (mono_r 𝓤 (sep 𝓤 (H.room τ b zero) (H.dies τ b)) s.prf))));
       })
 
-  pub free-cell : K → (n : ℕ) {τ : Ty} {b : ℕ} {v : Val} → nth 𝓛 n Γ ≡ ‵ (fat full_share τ b zero v) → nth 𝓛 n (del 𝓛 n Γ) ≡ ‵ (fdies τ b)
+  pub free_cell : K → (n : ℕ) {τ : Ty} {b : ℕ} {v : Val} → nth 𝓛 n Γ ≡ ‵ (fat full_share τ b zero v) → nth 𝓛 n (del 𝓛 n Γ) ≡ ‵ (fdies τ b)
       → Step K 𝓛 (del 𝓛 n (del 𝓛 n Γ)) (frees E g) Γ (frees ((τ, b) ∷ E) g)
-  free-cell t n {τ} {b} {v} holds = free-at n (via 𝓤 (H.at full_share τ b zero v) (is_there 𝓛 holds) (𝓛.laws.at_room τ b zero v))
+  free_cell t n {τ} {b} {v} holds = free_at n (via 𝓤 (H.at full_share τ b zero v) (is_there 𝓛 holds) (𝓛.laws.at_room τ b zero v))
 
-  pub free-room : K → (n : ℕ) {τ : Ty} {b : ℕ} → nth 𝓛 n Γ ≡ ‵ (froom τ b zero) → nth 𝓛 n (del 𝓛 n Γ) ≡ ‵ (fdies τ b)
+  pub free_room : K → (n : ℕ) {τ : Ty} {b : ℕ} → nth 𝓛 n Γ ≡ ‵ (froom τ b zero) → nth 𝓛 n (del 𝓛 n Γ) ≡ ‵ (fdies τ b)
       → Step K 𝓛 (del 𝓛 n (del 𝓛 n Γ)) (frees E g) Γ (frees ((τ, b) ∷ E) g)
-  free-room t n {τ} {b} holds = free-at n (is_there 𝓛 holds)
+  free_room t n {τ} {b} holds = free_at n (is_there 𝓛 holds)
 
 -- ---- values
 
@@ -136,14 +136,14 @@ module _ {M : Type 1} {𝓤 : Ura M} {𝓛 : Logic 𝓤} {K : Type 0} {Γ : List
     {f : Name} {xs : List Operand} {d : Place} {rest : Body} where
   open 𝓛 use {H}
 
-  pub calls-value : K → FmC 𝓤 H 𝓛.laws C → (T : Ended) (c : Clauses 𝓤 T) → Triple 𝓤 (C f) (Callee 𝓛 T c)
+  pub calls_value : K → FmC 𝓤 H 𝓛.laws C → (T : Ended) (c : Clauses 𝓤 T) → Triple 𝓤 (C f) (Callee 𝓛 T c)
       → (y : (Callee 𝓛 T c).Ghost) → ent 𝓤 (emp 𝓤) ((Callee 𝓛 T c).pre y)
       → (φ : Res T.signature y.0.0 → Type 0)
       → ((r : Res T.signature y.0.0) (e : AtExit T y.0.0) → ent 𝓤 ((c y.0.0 y.0.3).ensures y.1 r e) (fact 𝓤 (φ r)))
       → Opds K 𝓛 (raw ((Callee 𝓛 T c).pre y) ∷ Γ) E xs ((Callee 𝓛 T c).args y)
       → ((r : Res T.signature y.0.0) (v : Val) → φ r → Is (type_at T.signature.result y.0.0) r (v ∷ []) → Seq K 𝓛 Γ (lands C Λ E d v rest q))
       → Seq K 𝓛 Γ (runs C Λ E (seq (call f xs d) rest) q)
-  calls-value t fm T c known y free φ says os k =
+  calls_value t fm T c known y free φ says os k =
       let R = type_at T.signature.result y.0.0 in
       use0 𝓛 (raw ((Callee 𝓛 T c).pre y)) free $ calls_at t fm (Callee 𝓛 T c) known y os (λ v.
       use1 𝓛 (later (some (λ (r : Res T.signature y.0.0). (raw (alive 𝓛 T.signature y.0.0 y.0.1) ⊛ ‵ (R.own_val r (v ∷ [])))

@@ -20,8 +20,8 @@ use Rattle.push_up.specs.WriteAnswer.{Program, pushed, unpushed, write_of}
 use Rattle.sharing.specs.declared.Ranked.{Ranked}
 use Rattle.sharing.specs.Shared.{shared_target, write_shared_of}
 use Rattle.push_room.specs.Room.{write_into_of, write_shared_into_of}
-use Rattle.push_room.proofs.Roomy.{into-written, shared-into-written}
-use Rattle.push_room.proofs.Answers.{AnswerInto, done, refused, into-answer, shared-into-answer, into-pulses, into-program}
+use Rattle.push_room.proofs.Roomy.{into_written, shared_into_written}
+use Rattle.push_room.proofs.Answers.{AnswerInto, done, refused, into_answer, shared_into_answer, into_pulses, into_program}
 use Rattle.push_list.specs.LentWrite.{filled, list_after}
 
 abbrev pub filled_by : Told Program → List Push → List Push
@@ -50,36 +50,36 @@ module _ {g : Group} {room : ℕ} (list : List Push) where
   list_counted (refused k) = refl
 
   -- their pulses are the answer's, and they are a push program from the levels that the call found to those that it left
-  pub list-pulses : {t : Told Program} → AnswerInto g room t → t.value.pulses ≡ pulses_in (counted t.value.count (list_after t list))
-  list-pulses a = rw (list_counted a) (into-pulses a)
+  pub list_pulses : {t : Told Program} → AnswerInto g room t → t.value.pulses ≡ pulses_in (counted t.value.count (list_after t list))
+  list_pulses a = rw (list_counted a) (into_pulses a)
 
-  pub list-program : {t : Told Program} → AnswerInto g room t → length g.levels ≡ 12
+  pub list_program : {t : Told Program} → AnswerInto g room t → length g.levels ≡ 12
       → IsPushProgram (counted t.value.count (list_after t list)) g.levels t.value.group.levels
-  list-program a twelve = rw (list_counted a) (into-program a twelve)
+  list_program a twelve = rw (list_counted a) (into_program a twelve)
 
 -- ---- the two calls
 
 module _ (g : Group) (list : List Push) where
   -- whatever it checks, an accepted call leaves its push program first
-  accepted-first : (checks : List (Bool × Refusal)) (mark : Bool) (ranks : List (List ℕ)) → number_of checks ≡ 0
+  accepted_first : (checks : List (Bool × Refusal)) (mark : Bool) (ranks : List (List ℕ)) → number_of checks ≡ 0
       → let program = pushes 1 ranks g.levels in list_after (answer checks (pushed mark g ranks) (unpushed g)) list ≡ program ++ drop (length program) list
   unfolding list_after answer pushed
-  accepted-first checks mark ranks e = let program = pushes 1 ranks g.levels in rw (e, take_at program _ (length program) refl)
+  accepted_first checks mark ranks e = let program = pushes 1 ranks g.levels in rw (e, take_at program _ (length program) refl)
 
-  pub program-first : (o : Order) → (write_into_of g o (length list)).number ≡ 0
+  pub program_first : (o : Order) → (write_into_of g o (length list)).number ≡ 0
       → let program = pushes 1 (singles (listed o)) g.levels in list_after (write_into_of g o (length list)) list ≡ program ++ drop (length program) list
   unfolding write_into_of answer
-  program-first o e = accepted-first _ true (singles (listed o)) e
+  program_first o e = accepted_first _ true (singles (listed o)) e
 
-  pub shared-program-first : (t : Ranked) → (write_shared_into_of g t (length list)).number ≡ 0
+  pub shared_program_first : (t : Ranked) → (write_shared_into_of g t (length list)).number ≡ 0
       → let program = pushes 1 (shared_target g.n t) g.levels in list_after (write_shared_into_of g t (length list)) list ≡ program ++ drop (length program) list
   unfolding write_shared_into_of answer
-  shared-program-first t e = accepted-first _ false (shared_target g.n t) e
+  shared_program_first t e = accepted_first _ false (shared_target g.n t) e
 
 -- with room enough the list is filled by the answer of the write by value
 module _ (g : Group) (list : List Push) (l : g.n - 1 ≤ length list) where
   pub list_written : (o : Order) → list_after (write_into_of g o (length list)) list ≡ filled_by (write_of g o) list
-  list_written o = list_filled list (into-answer g (length list) o) ∙ ap (λ (t : Told Program). filled_by t list) (into-written g (length list) o l)
+  list_written o = list_filled list (into_answer g (length list) o) ∙ ap (λ (t : Told Program). filled_by t list) (into_written g (length list) o l)
 
-  pub shared-list-written : (t : Ranked) → list_after (write_shared_into_of g t (length list)) list ≡ filled_by (write_shared_of g t) list
-  shared-list-written t = list_filled list (shared-into-answer g (length list) t) ∙ ap (λ (u : Told Program). filled_by u list) (shared-into-written g (length list) t l)
+  pub shared_list_written : (t : Ranked) → list_after (write_shared_into_of g t (length list)) list ≡ filled_by (write_shared_of g t) list
+  shared_list_written t = list_filled list (shared_into_answer g (length list) t) ∙ ap (λ (u : Told Program). filled_by u list) (shared_into_written g (length list) t l)

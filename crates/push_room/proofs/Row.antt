@@ -10,8 +10,8 @@ use Rattle.sharing.specs.declared.Ranked.{Ranked}
 use Rattle.push_room.specs.Room.{into_checks, shared_into_checks}
 
 module _ (g : Group) (room : ℕ) where
-  pub into-in-row : (o : Order) → in_row (into_checks g o room) check_row ≡ true
-  into-in-row o = refl
+  pub into_in_row : (o : Order) → in_row (into_checks g o room) check_row ≡ true
+  into_in_row o = refl
 
-  pub shared-into-in-row : (t : Ranked) → in_row (shared_into_checks g t room) check_row ≡ true
-  shared-into-in-row t = refl
+  pub shared_into_in_row : (t : Ranked) → in_row (shared_into_checks g t room) check_row ≡ true
+  shared_into_in_row t = refl

@@ -9,7 +9,7 @@ use Rattle.push_up.specs.PushUp.{floor_over, lift, raise}
 use Rattle.push_up.specs.WriteAnswer.{raised, fits}
 use Rattle.push_up.proofs.Minimal.{Fresh, Apart}
 use Rattle.push_up.proofs.Orders.{TargetOf}
-use Rattle.push_up.proofs.OneMore.{floor-upper, raise-upper}
+use Rattle.push_up.proofs.OneMore.{floor_upper, raise_upper}
 
 -- every cell capped at 4,095
 abbrev full : ℕ → List ℕ
@@ -21,20 +21,20 @@ full_level n c low high =
     get_or-append (replicate n 4095) (replicate (12 - n) 0) 0 (c - 1) (omega (arith, length-replicate {A = ℕ} n 4095)) ∙ get_or-replicate {A = ℕ} n (c - 1) 4095 0 (omega arith)
 
 module _ (gap : ℕ) (step : gap ≤ 15) (n h : ℕ) (room : h + 195 ≤ 4095) (old : List ℕ) (low : (i : ℕ) → get_or old i 0 ≤ h) where
-  lift-within : (f : ℕ) (r : List ℕ) (rs : List (List ℕ)) (new : List ℕ) → f ≤ 4095 → Fresh n r rs → AtMost new (full n) → AtMost (lift old f r new) (full n)
+  lift_within : (f : ℕ) (r : List ℕ) (rs : List (List ℕ)) (new : List ℕ) → f ≤ 4095 → Fresh n r rs → AtMost new (full n) → AtMost (lift old f r new) (full n)
   unfolding lift level
-  lift-within f [] rs new l a p = p
-  lift-within f (c ∷ cs) rs new l a p =
-      put_below c _ (lift-within f cs rs new l a.1 p) (omega (arith, full_level n c a.0.0.0 a.0.0.1, low (c - 1)))
+  lift_within f [] rs new l a p = p
+  lift_within f (c ∷ cs) rs new l a p =
+      put_below c _ (lift_within f cs rs new l a.1 p) (omega (arith, full_level n c a.0.0.0 a.0.0.1, low (c - 1)))
 
-  raise-within : (rs : List (List ℕ)) → length rs ≤ 12 → Apart n rs → AtMost old (full n) → AtMost (raise gap rs old) (full n)
+  raise_within : (rs : List (List ℕ)) → length rs ≤ 12 → Apart n rs → AtMost old (full n) → AtMost (raise gap rs old) (full n)
   unfolding raise Apart
-  raise-within [] l a p = p
-  raise-within (r ∷ rs) l a p =
+  raise_within [] l a p = p
+  raise_within (r ∷ rs) l a p =
       let new = raise gap rs old in
-      lift-within (floor_over gap rs new) r rs new (omega (arith, floor-upper gap step h old low rs new (raise-upper gap step h old low rs))) a.0 (raise-within rs (omega arith) a.1 p)
+      lift_within (floor_over gap rs new) r rs new (omega (arith, floor_upper gap step h old low rs new (raise_upper gap step h old low rs))) a.0 (raise_within rs (omega arith) a.1 p)
 
 pub low_fits : (g : Group) (t : List (List ℕ)) (h : ℕ) → h + 195 ≤ 4095 → ((i : ℕ) → get_or g.levels i 0 ≤ h) → g.caps ≡ full g.n → AtMost g.levels g.caps
     → length t ≤ 12 → TargetOf g.n t → fits g t ≡ true
 unfolding fits raised
-low_fits g t h room low caps under l a = rw caps (true_at_most (raise-within 1 (omega arith) g.n h room g.levels low t l a.apart (rw caps at under)))
+low_fits g t h room low caps under l a = rw caps (true_at_most (raise_within 1 (omega arith) g.n h room g.levels low t l a.apart (rw caps at under)))

@@ -19,17 +19,17 @@ pub record CellsOf (n : ℕ) (cs : List ℕ) : Type 0 where
 pub order_cells : (n : ℕ) (xs : List ℕ) → IsOrder n xs → CellsOf n xs
 order_cells n xs o =
     record {
-      none = zero-none;
-      once = λ c. at-most-once c;
+      none = zero_none;
+      once = λ c. at_most_once c;
       past = λ c l. beyond c l;
     }
   where
-    zero-none : count 0 xs ≡ 0
-    zero-none = omega (arith, below_suc 0 xs, o.up_to 0 (omega arith))
+    zero_none : count 0 xs ≡ 0
+    zero_none = omega (arith, below_suc 0 xs, o.up_to 0 (omega arith))
 
-    at-most-once : (c : ℕ) → count c xs ≤ 1
-    at-most-once zero = omega (arith, zero-none)
-    at-most-once (suc c) =
+    at_most_once : (c : ℕ) → count c xs ≤ 1
+    at_most_once zero = omega (arith, zero_none)
+    at_most_once (suc c) =
         ⊎_elim (λ t. omega (arith, order_count n xs o c t.0)) (λ t. omega (arith, order_past n xs o c t.0)) (lt_cases c n)
 
     beyond : (c : ℕ) → n < c → count c xs ≡ 0
@@ -55,11 +55,11 @@ module _ {n c : ℕ} {cs : List ℕ} (s : CellsOf n (c ∷ cs)) where
   pub first_low : 1 ≤ c
   first_low = ⊎_elim (λ t. omega (arith, tally-eq c 0 (omega arith), s.none)) (λ t. t.0) (lt_cases c 1)
 
-  pub first-high : c ≤ n
-  first-high = ⊎_elim (λ t. omega (arith, tally-eq c c refl, s.past c t.0)) (λ t. t.0) (lt_cases n c)
+  pub first_high : c ≤ n
+  first_high = ⊎_elim (λ t. omega (arith, tally-eq c c refl, s.past c t.0)) (λ t. t.0) (lt_cases n c)
 
-  pub first-new : count c cs ≡ 0
-  first-new = omega (arith, tally-eq c c refl, s.once c)
+  pub first_new : count c cs ≡ 0
+  first_new = omega (arith, tally-eq c c refl, s.once c)
 
 -- a cell that is listed is one of 1 to n
 pub listed_range : (n : ℕ) (cs : List ℕ) → CellsOf n cs → (c : ℕ) → 1 ≤ count c cs → (1 ≤ c) × (c ≤ n)
@@ -75,12 +75,12 @@ off_all n c (d ∷ ds) l s e =
     (eq_cases d c)
 
 pub cells_off : {n c : ℕ} {cs : List ℕ} → CellsOf n (c ∷ cs) → OffAll c (singles cs)
-cells_off {n} {c} {cs} s = off_all n c cs (first_low s) (cells_tail s) (first-new s)
+cells_off {n} {c} {cs} s = off_all n c cs (first_low s) (cells_tail s) (first_new s)
 
 cells_apart : {n : ℕ} (m : ℕ) (cs : List ℕ) → n ≤ m → CellsOf n cs → Apart m (singles cs)
 unfolding singles Apart
 cells_apart m [] l s = tt
-cells_apart m (c ∷ cs) l s = ((((first_low s, le_trans (first-high s) l), (tt, cells_off s)), tt), cells_apart m cs l (cells_tail s))
+cells_apart m (c ∷ cs) l s = ((((first_low s, le_trans (first_high s) l), (tt, cells_off s)), tt), cells_apart m cs l (cells_tail s))
 
 -- ---- targets
 
@@ -112,18 +112,18 @@ unfoldable pub Falling : ℕ → List ℕ → List ℕ → Type 0
 Falling gap xs ls = (i : ℕ) → suc i < length xs → level ls (get_or xs (suc i) 0) + gap ≤ level ls (get_or xs i 0)
 
 module _ (gap : ℕ) where
-  pub shows-falling : (xs ls : List ℕ) → Shows gap (singles xs) ls → Falling gap xs ls
+  pub shows_falling : (xs ls : List ℕ) → Shows gap (singles xs) ls → Falling gap xs ls
   unfolding singles Shows Reach floor_over top Falling
-  shows-falling [] ls s i l = absurd (not-suc-le-zero l)
-  shows-falling (c ∷ []) ls s i l = absurd (not-suc-le-zero (le_of_suc-le-suc l))
-  shows-falling (c ∷ d ∷ ds) ls s zero l = omega (arith, s.0.0)
-  shows-falling (c ∷ d ∷ ds) ls s (suc i) l = shows-falling (d ∷ ds) ls s.1 i (le_of_suc-le-suc l)
+  shows_falling [] ls s i l = absurd (not-suc-le-zero l)
+  shows_falling (c ∷ []) ls s i l = absurd (not-suc-le-zero (le_of_suc-le-suc l))
+  shows_falling (c ∷ d ∷ ds) ls s zero l = omega (arith, s.0.0)
+  shows_falling (c ∷ d ∷ ds) ls s (suc i) l = shows_falling (d ∷ ds) ls s.1 i (le_of_suc-le-suc l)
 
-  pub falling-shows : (xs ls : List ℕ) → Falling gap xs ls → Shows gap (singles xs) ls
+  pub falling_shows : (xs ls : List ℕ) → Falling gap xs ls → Shows gap (singles xs) ls
   unfolding singles Shows Reach floor_over top Falling
-  falling-shows [] ls f = tt
-  falling-shows (c ∷ []) ls f = ((omega arith, tt), tt)
-  falling-shows (c ∷ d ∷ ds) ls f = ((omega (arith, f 0 (omega arith)), tt), falling-shows (d ∷ ds) ls (λ i l. f (suc i) (omega arith)))
+  falling_shows [] ls f = tt
+  falling_shows (c ∷ []) ls f = ((omega arith, tt), tt)
+  falling_shows (c ∷ d ∷ ds) ls f = ((omega (arith, f 0 (omega arith)), tt), falling_shows (d ∷ ds) ls (λ i l. f (suc i) (omega arith)))
 
-  pub shows-iff-falling : (xs ls : List ℕ) → Shows gap (singles xs) ls ↔ Falling gap xs ls
-  shows-iff-falling xs ls = (shows-falling xs ls, falling-shows xs ls)
+  pub shows_iff_falling : (xs ls : List ℕ) → Shows gap (singles xs) ls ↔ Falling gap xs ls
+  shows_iff_falling xs ls = (shows_falling xs ls, falling_shows xs ls)

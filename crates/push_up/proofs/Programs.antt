@@ -55,21 +55,21 @@ push_runs c old v ls i e h =
     rw (same, put_same ls c) rest)
 
 module _ (rs : List (List ℕ)) (old new : List ℕ) (f : ℕ) (above : AtMost old new) (kept : (c : ℕ) → OffAll c rs → level new c ≡ level old c) where
-  rank-runs : (r : List ℕ) → Fresh (length old) r rs → Runs (rank_pushes old f r) new (lift old f r new)
+  rank_runs : (r : List ℕ) → Fresh (length old) r rs → Runs (rank_pushes old f r) new (lift old f r new)
   unfolding rank_pushes lift
-  rank-runs [] a = rest
-  rank-runs (c ∷ cs) a =
+  rank_runs [] a = rest
+  rank_runs (c ∷ cs) a =
       let mid = lift old f cs new in
       let inside : c - 1 < length mid = omega (arith, at_most_length (lift_above f cs above), a.0.0) in
       let stands : level mid c ≡ level old c = lift_other old f cs new c a.0.1.0 ∙ kept c a.0.1.1 in
-      runs_append (rank-runs cs a.1) (push_runs c (level old c) (max (level old c) f) mid inside stands (le-max_left (level old c) f))
+      runs_append (rank_runs cs a.1) (push_runs c (level old c) (max (level old c) f) mid inside stands (le-max_left (level old c) f))
 
 pub program_runs : (g : ℕ) (rs : List (List ℕ)) (ls : List ℕ) → Apart (length ls) rs → Runs (pushes g rs ls) ls (raise g rs ls)
 unfolding pushes raise Apart
 program_runs g [] ls a = rest
 program_runs g (r ∷ rs) ls a =
     runs_append (program_runs g rs ls a.1)
-    (rank-runs rs ls (raise g rs ls) (floor_over g rs (raise g rs ls)) (raise_above g rs ls) (raise_other g rs ls) r a.0)
+    (rank_runs rs ls (raise g rs ls) (floor_over g rs (raise g rs ls)) (raise_above g rs ls) (raise_other g rs ls) r a.0)
 
 -- ---- nothing is pushed more often than the ranks list it, and that is once at most, and cells alone
 
@@ -109,19 +109,19 @@ cell_tally : (n c : ℕ) → (1 ≤ c) × (c ≤ n) → tally (is_cell n c) ≡ 
 cell_tally n c r = rw (le-leb 1 c r.0, le-leb c n r.1)
 
 module _ (c n : ℕ) where
-  fresh-once : (r : List ℕ) (rs : List (List ℕ)) → Fresh n r rs → times_listed c rs ≤ tally (is_cell n c) → times_listed c (r ∷ rs) ≤ tally (is_cell n c)
-  fresh-once [] rs a l = omega arith
-  fresh-once (d ∷ ds) rs a l =
+  fresh_once : (r : List ℕ) (rs : List (List ℕ)) → Fresh n r rs → times_listed c rs ≤ tally (is_cell n c) → times_listed c (r ∷ rs) ≤ tally (is_cell n c)
+  fresh_once [] rs a l = omega arith
+  fresh_once (d ∷ ds) rs a l =
       ⊎_elim
       (λ t.
       let here : ((1 ≤ c) × (c ≤ n)) × OffAll c (ds ∷ rs) = rw t.0 at a.0 in
       omega (arith, off_all_none c (ds ∷ rs) here.1, tally-le (eqb c d), cell_tally n c here.0))
-      (λ t. omega (arith, tally-ne d c t.0, fresh-once ds rs a.1 l)) (eq_cases d c)
+      (λ t. omega (arith, tally-ne d c t.0, fresh_once ds rs a.1 l)) (eq_cases d c)
 
-  apart-once : (rs : List (List ℕ)) → Apart n rs → times_listed c rs ≤ tally (is_cell n c)
+  apart_once : (rs : List (List ℕ)) → Apart n rs → times_listed c rs ≤ tally (is_cell n c)
   unfolding Apart
-  apart-once [] a = zero-le
-  apart-once (r ∷ rs) a = fresh-once r rs a.0 (apart-once rs a.1)
+  apart_once [] a = zero-le
+  apart_once (r ∷ rs) a = fresh_once r rs a.0 (apart_once rs a.1)
 
 -- ---- the laws
 
@@ -131,7 +131,7 @@ is_push_program g rs ls a =
     record {
       gives = runs_played runs;
       starts = runs_starts runs;
-      once = λ c. omega (arith, program_times c g rs ls, apart-once c (length ls) rs a);
+      once = λ c. omega (arith, program_times c g rs ls, apart_once c (length ls) rs a);
       pulses = omega (arith, runs_pulses runs, rises_up (raise_above g rs ls));
     }
 
@@ -143,15 +143,15 @@ no_pushes ls = is_push_program 1 [] ls tt
 -- ---- the pushes that the answer to a write carries
 
 module _ (w : Bool) (g : Group) (t : List (List ℕ)) where
-  pub counted-pushes : let p = pushed w g t in counted p.count p.pushes ≡ pushes 1 t g.levels
+  pub counted_pushes : let p = pushed w g t in counted p.count p.pushes ≡ pushes 1 t g.levels
   unfolding pushed
-  counted-pushes = take_at (pushes 1 t g.levels) _ (length (pushes 1 t g.levels)) refl
+  counted_pushes = take_at (pushes 1 t g.levels) _ (length (pushes 1 t g.levels)) refl
 
-  pub counted-pulses : let p = pushed w g t in p.pulses ≡ pulses_in (counted p.count p.pushes)
+  pub counted_pulses : let p = pushed w g t in p.pulses ≡ pulses_in (counted p.count p.pushes)
   unfolding pushed
-  counted-pulses = ap pulses_in (sym counted-pushes)
+  counted_pulses = ap pulses_in (sym counted_pushes)
 
-  pub counted-program : TargetOf g.n t → g.n ≤ length g.levels
+  pub counted_program : TargetOf g.n t → g.n ≤ length g.levels
       → let p = pushed w g t in IsPushProgram (counted p.count p.pushes) g.levels p.group.levels
   unfolding pushed raised
-  counted-program a l = rw counted-pushes (is_push_program 1 t g.levels (apart_wider t l a.apart))
+  counted_program a l = rw counted_pushes (is_push_program 1 t g.levels (apart_wider t l a.apart))

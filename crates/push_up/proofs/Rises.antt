@@ -9,7 +9,7 @@ use Rattle.order.proofs.Numbers.{drop_up}
 use Rattle.order.proofs.Bits.{or_at_most}
 use Rattle.group.specs.Levels.{tallied}
 use Rattle.group.specs.Record.{all_at_most}
-use Rattle.group.proofs.TopBit.{low, above-test}
+use Rattle.group.proofs.TopBit.{low, above_test}
 use Rattle.group.proofs.Tallies.{length_tallied}
 
 -- the rise of place i
@@ -26,14 +26,14 @@ module _ (e u r s w : ℕ) (small : e ≤ low) (fits : u < 2 ^ 32) (short : r < 
   under : s < 2 ^ 32
   under = omega arith
 
-  next-test : (over : ℕ) → leb (bit_or (bit_or (bit_or over u) s) w) low ≡ (leb over low && leb (u + r) e)
-  next-test over = or_at_most 31 low (bit_or (bit_or over u) s) w refl ∙ rw (or_at_most 31 low (bit_or over u) s refl, or_at_most 31 low over u refl) (regroup ∙ go (leb u low) refl)
+  next_test : (over : ℕ) → leb (bit_or (bit_or (bit_or over u) s) w) low ≡ (leb over low && leb (u + r) e)
+  next_test over = or_at_most 31 low (bit_or (bit_or over u) s) w refl ∙ rw (or_at_most 31 low (bit_or over u) s refl, or_at_most 31 low over u refl) (regroup ∙ go (leb u low) refl)
     where
       regroup : (((leb over low && leb u low) && leb s low) && leb w low) ≡ (leb over low && (leb u low && (leb s low && leb w low)))
       regroup = and_assoc (leb over low && leb u low) (leb s low) (leb w low) ∙ and_assoc (leb over low) (leb u low) (leb s low && leb w low)
 
       go : (b : Bool) → leb u low ≡ b → (leb over low && (b && (leb s low && leb w low))) ≡ (leb over low && leb (u + r) e)
-      go true f = ap (λ (t : Bool). leb over low && t) (above-test e s w small under less wraps ∙ ap (λ (t : ℕ). leb t e) (whole (leb-true u low f)))
+      go true f = ap (λ (t : Bool). leb over low && t) (above_test e s w small under less wraps ∙ ap (λ (t : ℕ). leb t e) (whole (leb-true u low f)))
       go false f = ap (λ (t : Bool). leb over low && t) (sym (lt-leb (u + r) e (omega (arith, leb-false u low f))))
 
 sum-suc : (i : ℕ) (us xs ys : List ℕ) → i < length us → i < length xs → i < length ys
@@ -53,16 +53,16 @@ module _ (e : ℕ) (us xs ys : List ℕ) where
     pub gathered : (leb over low && all_at_most e (tallied (drop i us) (drop i xs) (drop i ys))) ≡ all_at_most e (tallied us xs ys)
     pub summed : leb over low ≡ true → sums ≡ take i (tallied us xs ys) ++ drop i us
 
-  pub adding-none : Adding us 0 0
-  adding-none = record { gathered = refl; summed = λ f. refl }
+  pub adding_none : Adding us 0 0
+  adding_none = record { gathered = refl; summed = λ f. refl }
 
   module _ {sums : List ℕ} {over i : ℕ} (a : Adding sums over i) where
-    pub adding-more : (s w : ℕ) → e ≤ low → get_or us i 0 < 2 ^ 32 → rise xs ys i < 65536 → s ≡ (get_or us i 0 + rise xs ys i) % 2 ^ 32 → w < 2 ^ 32 → (w + s) % 2 ^ 32 ≡ e
+    pub adding_more : (s w : ℕ) → e ≤ low → get_or us i 0 < 2 ^ 32 → rise xs ys i < 65536 → s ≡ (get_or us i 0 + rise xs ys i) % 2 ^ 32 → w < 2 ^ 32 → (w + s) % 2 ^ 32 ≡ e
         → i < length us → i < length xs → i < length ys → Adding (set sums i s) (bit_or (bit_or (bit_or over (get_or us i 0)) s) w) (i + 1)
     unfolding tallied all_at_most
-    adding-more s w small fits short sum less wraps l m n =
+    adding_more s w small fits short sum less wraps l m n =
         let u = get_or us i 0 in
-        let test = next-test e u (rise xs ys i) s w small fits short sum less wraps over in
+        let test = next_test e u (rise xs ys i) s w small fits short sum less wraps over in
         record {
           gathered = rw test (and_assoc (leb over low) (leb (u + rise xs ys i) e) _ ∙ rw (drop_up us i l, drop_up xs i m, drop_up ys i n) at a.gathered);
           summed =
@@ -73,11 +73,11 @@ module _ (e : ℕ) (us xs ys : List ℕ) where
         }
 
     module _ (l : length us ≤ i) where
-      pub adding-lasts : leb over low ≡ all_at_most e (tallied us xs ys)
+      pub adding_lasts : leb over low ≡ all_at_most e (tallied us xs ys)
       unfolding tallied all_at_most
-      adding-lasts = sym (and-true (leb over low)) ∙ rw (drop_of_length-le us {i = i} l) at a.gathered
+      adding_lasts = sym (and-true (leb over low)) ∙ rw (drop_of_length-le us {i = i} l) at a.gathered
 
-      pub adding-all : leb over low ≡ true → sums ≡ tallied us xs ys
-      adding-all f =
+      pub adding_all : leb over low ≡ true → sums ≡ tallied us xs ys
+      adding_all f =
           let whole = take_all i (tallied us xs ys) (omega (arith, length_tallied us xs ys)) in
           a.summed f ∙ rw (whole, drop_of_length-le us {i = i} l) (append-nil (tallied us xs ys))

@@ -7,16 +7,16 @@ use Rattle.order.specs.declared.Refusal.TheVariants.{NoOrder, Worn, Spent}
 use Rattle.order.specs.Refusals.{number_of, answer}
 use Rattle.order.specs.Cells.{is_order}
 use Rattle.order.specs.Order.{listed, is_order_of}
-use Rattle.order.proofs.Refusals.{all_held, check_held, check-holds, all_hold}
-use Rattle.order.proofs.Check.{order-parts}
+use Rattle.order.proofs.Refusals.{all_held, check_held, check_holds, all_hold}
+use Rattle.order.proofs.Check.{order_parts}
 use Rattle.group.specs.declared.Group.{Group}
 use Rattle.group.specs.Record.{all_at_most, group_checks, IsGroup}
 use Rattle.group.specs.Levels.{AtMost, tallied}
 use Rattle.group.proofs.LevelRows.{all_below, row_true, row_below}
 use Rattle.group.proofs.Tallies.{length_tallied, tallied_same, tallied_mono, row_tallied}
 use Rattle.group.proofs.Levels.{at_most_refl, at_most_trans, at_most_length, at_most_true, true_at_most}
-use Rattle.group.proofs.Checks.{rules_held, checked-size, checked-levels, checked-caps}
-use Rattle.group.proofs.Groups.{told_value, told_accepted, group-with}
+use Rattle.group.proofs.Checks.{rules_held, checked_size, checked_levels, checked_caps}
+use Rattle.group.proofs.Groups.{told_value, told_accepted, group_with}
 use Rattle.push_up.specs.declared.Tallies.{Tallies}
 use Rattle.push_up.specs.PushUp.{singles, Shows}
 use Rattle.push_up.specs.WriteAnswer.{Program, raised, fits, lasts, push_checks, pushed, unpushed, write_of, tallies_of}
@@ -28,8 +28,8 @@ use Rattle.push_up.proofs.Orders.{TargetOf}
 pub checked_target : (g : Group) (o : Order) → number_of (group_checks g) ≡ 0 → is_order_of g.n o ≡ true
     → (is_order o.len (listed o) ≡ true) × (o.len ≤ 12) × (all_at_most 4095 g.levels ≡ true)
 checked_target g o d e =
-    let t = (order-parts g.n o e).1 in
-    (ap (λ (k : ℕ). is_order k (listed o)) t.long ∙ t.order, omega (arith, checked-size g d), row_true 4095 g.n g.levels (checked-levels g d))
+    let t = (order_parts g.n o e).1 in
+    (ap (λ (k : ℕ). is_order k (listed o)) t.long ∙ t.order, omega (arith, checked_size g d), row_true 4095 g.n g.levels (checked_levels g d))
 
 -- ---- a write
 
@@ -43,17 +43,17 @@ pub push_held : (g : Group) (t : List (List ℕ)) → number_of (push_checks g t
 push_held g t e = let f = check_held (fits g t) Worn _ e in (f.0, (check_held (lasts g t) Spent [] f.1).0)
 
 pub push_holds : (g : Group) (t : List (List ℕ)) → fits g t ≡ true → lasts g t ≡ true → number_of (push_checks g t) ≡ 0
-push_holds g t f l = check-holds Worn _ f ∙ check-holds Spent [] l ∙ all_hold
+push_holds g t f l = check_holds Worn _ f ∙ check_holds Spent [] l ∙ all_hold
 
 -- the rises of a push-up, added in a group: whether the endurance lasts, and the used pulses then
 module _ (g : Group) (d : number_of (group_checks g) ≡ 0) (t : List (List ℕ)) (r : Tallies) (e : r ≡ tallies_of g.endurance g.used g.levels (raised g t)) where
-  pub added-lasts : r.lasting ≡ lasts g t
+  pub added_lasts : r.lasting ≡ lasts g t
   unfolding lasts tallies_of
-  added-lasts = ap (λ (t : Tallies). t.lasting) e ∙ rw (rules_held g d).endurance
+  added_lasts = ap (λ (t : Tallies). t.lasting) e ∙ rw (rules_held g d).endurance
 
-  pub added-used : lasts g t ≡ true → r.used ≡ tallied g.used g.levels (raised g t)
+  pub added_used : lasts g t ≡ true → r.used ≡ tallied g.used g.levels (raised g t)
   unfolding lasts tallies_of
-  added-used l = ap (λ (t : Tallies). t.used) e ∙ rw ((rules_held g d).endurance, l)
+  added_used l = ap (λ (t : Tallies). t.used) e ∙ rw ((rules_held g d).endurance, l)
 
 -- cells raised past these checks leave a group
 pub group_pushed : (w : Bool) (g : Group) (t : List (List ℕ)) → IsGroup g → number_of (push_checks g t) ≡ 0 → IsGroup (pushed w g t).group
@@ -61,8 +61,8 @@ unfolding pushed fits lasts
 group_pushed w g t h e =
     let held = push_held g t e in
     let low = at_most_true (raised g t) g.caps held.0 in
-    let row = row_below 4095 g.n low (checked-caps g h.passes) in
-    group-with g h (raised g t) g.caps _ w row (at_most_length low ∙ h.caps) (at_most_refl g.caps)
+    let row = row_below 4095 g.n low (checked_caps g h.passes) in
+    group_with g h (raised g t) g.caps _ w row (at_most_length low ∙ h.caps) (at_most_refl g.caps)
     (row_tallied g.endurance 4095 g.n g.used g.levels (raised g t) (rules_held g h.passes).used row held.1)
     (length_tallied g.used g.levels (raised g t) ∙ h.used)
 
@@ -103,7 +103,7 @@ lasts_where g t ms p s q = all_below g.endurance (tallied_mono g.used g.levels (
 
 -- a target of the group's cells stands apart among its levels, so that it shows when they are raised to it
 pub target_apart : (g : Group) (t : List (List ℕ)) → IsGroup g → TargetOf g.n t → Apart (length g.levels) t
-target_apart g t h a = apart_wider t (omega (arith, checked-size g h.passes, h.levels)) a.apart
+target_apart g t h a = apart_wider t (omega (arith, checked_size g h.passes, h.levels)) a.apart
 
 pub raised_shows : (g : Group) (t : List (List ℕ)) → IsGroup g → TargetOf g.n t → Shows 1 t (raised g t)
 unfolding raised

@@ -45,12 +45,12 @@ module _ {xs : List ℕ} {len i : ℕ} (t : ClearTo xs len i) where
     unfolding all_zero
     clear_step = ap all_zero (drop_up xs i (omega (arith, t.whole))) ∙ rw at
 
-    pub clear-more : x ≡ 0 → ClearTo xs len (i + 1)
-    clear-more e = record { whole = t.whole; left = omega arith; same = sym (clear_step ∙ rw (eq-eqb x 0 e)) ∙ t.same }
+    pub clear_more : x ≡ 0 → ClearTo xs len (i + 1)
+    clear_more e = record { whole = t.whole; left = omega arith; same = sym (clear_step ∙ rw (eq-eqb x 0 e)) ∙ t.same }
 
-    pub clear-not : (x ≡ 0 → ⊥) → false ≡ all_zero (drop len xs)
-    clear-not e = sym (clear_step ∙ rw (ne_eqb x 0 e)) ∙ t.same
+    pub clear_not : (x ≡ 0 → ⊥) → false ≡ all_zero (drop len xs)
+    clear_not e = sym (clear_step ∙ rw (ne_eqb x 0 e)) ∙ t.same
 
-  pub clear-end : 12 ≤ i → true ≡ all_zero (drop len xs)
+  pub clear_end : 12 ≤ i → true ≡ all_zero (drop len xs)
   unfolding all_zero
-  clear-end l = sym (ap all_zero (drop_of_length-le xs {i = i} (omega (arith, t.whole)))) ∙ t.same
+  clear_end l = sym (ap all_zero (drop_of_length-le xs {i = i} (omega (arith, t.whole)))) ∙ t.same

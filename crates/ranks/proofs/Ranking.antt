@@ -13,10 +13,10 @@ use Rattle.order.specs.declared.Cell.{Cell}
 use Rattle.order.specs.declared.Rank.{Rank}
 use Rattle.order.specs.Cells.{place_from, place_of, tabulate}
 use Rattle.order.proofs.Cells.{IsOrder, lt_cases}
-use Rattle.order.proofs.Tabulate.{tabulate-ext, tabulate-set}
+use Rattle.order.proofs.Tabulate.{tabulate_ext, tabulate_set}
 use Rattle.order.proofs.Numbers.{cell}
-use Rattle.ranks.specs.Steps.{with_cell}
-use Rattle.order.proofs.Sweep.{Downto, Turn, turn_by, met-low, met-high, down-none, down-more, drop-none, met-down}
+use Rattle.ranks.specs.Steps.{with_cell_lem}
+use Rattle.order.proofs.Sweep.{Downto, Turn, turn_by, met_low, met_high, down_none, down_more, drop_none, met_down}
 
 place_same : (p x : ℕ) (xs : List ℕ) → place_from p (x ∷ xs) x ≡ p
 unfolding place_from
@@ -36,12 +36,12 @@ module _ {A : Type 0} (wrap : ℕ → A) where
   unfolding places_from
   places_more p x xs =
       ⊎_elim
-      (λ t. rw t.1 (tabulate-ext 12 _ _ (λ k l. ap wrap (sym (place_other p x (suc k) xs (omega arith))))))
+      (λ t. rw t.1 (tabulate_ext 12 _ _ (λ k l. ap wrap (sym (place_other p x (suc k) xs (omega arith))))))
       (λ t.
       let e : suc (x - 1) ≡ x = omega arith in
       let v : place_from p (x ∷ xs) (suc (x - 1)) ≡ p = rw e (place_same p x xs) in
       rw (t.1, ← ap wrap v)
-      (tabulate-set 12 _ (λ k. wrap (place_from p (x ∷ xs) (suc k))) (x - 1) (λ j q. ap wrap (sym (place_other p x (suc j) xs (omega arith))))))
+      (tabulate_set 12 _ (λ k. wrap (place_from p (x ∷ xs) (suc k))) (x - 1) (λ j q. ap wrap (sym (place_other p x (suc j) xs (omega arith))))))
       (lt_cases x 1)
 
   -- the numbers from place i on have their places, and the others 0
@@ -51,30 +51,30 @@ module _ {A : Type 0} (wrap : ℕ → A) where
 
   pub placed_none : (xs : List ℕ) (len : ℕ) → length xs ≡ 12 → len ≤ 12 → Placed xs len (replicate 12 (wrap 0)) len
   unfolding places_from place_from
-  placed_none xs len w s = record { down = down-none xs len w s; sofar = rw (drop-none xs len w s) }
+  placed_none xs len w s = record { down = down_none xs len w s; sofar = rw (drop_none xs len w s) }
 
   module _ {xs : List ℕ} {ys : List A} {len i x : ℕ} (t : Turn (Placed xs len ys i) xs i x) where
     open t use {state as s, more as p}
 
-    on-down : Turn (Downto xs len i) xs i x
-    on-down = turn_by (λ (s : Placed xs len ys i). s.down) t
+    on_down : Turn (Downto xs len i) xs i x
+    on_down = turn_by (λ (s : Placed xs len ys i). s.down) t
 
     -- in an order x is in range
     module _ (o : IsOrder len (take len xs)) where
-      pub placed-low : 1 ≤ x
-      placed-low = met-low on-down o
+      pub placed_low : 1 ≤ x
+      placed_low = met_low on_down o
 
-      pub placed-high : x ≤ 12
-      placed-high = omega (arith, met-high on-down o, s.down.small)
+      pub placed_high : x ≤ 12
+      placed_high = omega (arith, met_high on_down o, s.down.small)
 
     placed_more : Placed xs len (cond (ltb x 1) ys (set ys (x - 1) (wrap i))) (i - 1)
     placed_more =
         let e : suc (i - 1) ≡ i = omega arith in
-        record { down = down-more on-down; sofar = rw (s.sofar, met-down on-down, e) (places_more i x (drop i (take len xs))) }
+        record { down = down_more on_down; sofar = rw (s.sofar, met_down on_down, e) (places_more i x (drop i (take len xs))) }
 
     -- i is stored at the place of x
-    pub placed-order : IsOrder len (take len xs) → {j v : ℕ} → j ≡ x - 1 → v ≡ i → Placed xs len (set ys j (wrap v)) (i - 1)
-    placed-order o a b = rw (a, b) (rw (le-ltb x 1 (placed-low o)) at placed_more)
+    pub placed_order : IsOrder len (take len xs) → {j v : ℕ} → j ≡ x - 1 → v ≡ i → Placed xs len (set ys j (wrap v)) (i - 1)
+    placed_order o a b = rw (a, b) (rw (le-ltb x 1 (placed_low o)) at placed_more)
 
   pub placed_all : {xs : List ℕ} {ys : List A} {len i : ℕ} → Placed xs len ys i → i ≤ 0 → ys ≡ tabulate 12 (λ k. wrap (place_of (take len xs) (suc k)))
   unfolding places_from place_of
@@ -82,6 +82,6 @@ module _ {A : Type 0} (wrap : ℕ → A) where
 
 -- cell c is stored at the place of its rank, where it has one
 pub placed_cell : {xs : List ℕ} {ys : List Cell} {len c x : ℕ} → Turn (Placed cell xs len ys c) xs c x
-    → {rank : Rank} {next : Cell} → rank.0 ≡ x → next.0 ≡ c → Placed cell xs len (with_cell ys rank next) (c - 1)
-unfolding with_cell
+    → {rank : Rank} {next : Cell} → rank.0 ≡ x → next.0 ≡ c → Placed cell xs len (with_cell_lem ys rank next) (c - 1)
+unfolding with_cell_lem
 placed_cell t a b = let e = ap cell b in rw (a, e) (placed_more cell t)

@@ -21,23 +21,23 @@ with_value true v = refl
 with_value false v = refl
 
 module _ (r : CallRecord) where
-  pub reserved-filled : eqb r.reserved 0 ≡ false → false ≡ unused_zero r
+  pub reserved_filled : eqb r.reserved 0 ≡ false → false ≡ unused_zero r
   unfolding unused_zero
-  reserved-filled z = rw z refl
+  reserved_filled z = rw z refl
 
-  pub zero-celled : eqb r.reserved 0 ≡ true → uses_cell r.kind ≡ true → true ≡ unused_zero r
+  pub zero_celled : eqb r.reserved 0 ≡ true → uses_cell r.kind ≡ true → true ≡ unused_zero r
   unfolding unused_zero tests
-  zero-celled z u = rw (z, u) (with_cell_lem (eqb r.cell.0 0) (leb r.kind 1) (eqb r.value 0))
+  zero_celled z u = rw (z, u) (with_cell_lem (eqb r.cell.0 0) (leb r.kind 1) (eqb r.value 0))
 
-  pub cell-filled : eqb r.reserved 0 ≡ true → uses_cell r.kind ≡ false → eqb r.cell.0 0 ≡ false → false ≡ unused_zero r
+  pub cell_filled : eqb r.reserved 0 ≡ true → uses_cell r.kind ≡ false → eqb r.cell.0 0 ≡ false → false ≡ unused_zero r
   unfolding unused_zero
-  cell-filled z u c = rw (z, u, c) refl
+  cell_filled z u c = rw (z, u, c) refl
 
-  pub zero-valued : eqb r.reserved 0 ≡ true → eqb r.cell.0 0 ≡ true → leb r.kind 1 ≡ true → true ≡ unused_zero r
+  pub zero_valued : eqb r.reserved 0 ≡ true → eqb r.cell.0 0 ≡ true → leb r.kind 1 ≡ true → true ≡ unused_zero r
   unfolding unused_zero tests
-  zero-valued z c l = rw (z, c, l) (with_value (uses_cell r.kind) (eqb r.value 0))
+  zero_valued z c l = rw (z, c, l) (with_value (uses_cell r.kind) (eqb r.value 0))
 
-  pub value-alone : eqb r.reserved 0 ≡ true → uses_cell r.kind ≡ false → eqb r.cell.0 0 ≡ true → leb r.kind 1 ≡ false
+  pub value_alone : eqb r.reserved 0 ≡ true → uses_cell r.kind ≡ false → eqb r.cell.0 0 ≡ true → leb r.kind 1 ≡ false
       → eqb r.value 0 ≡ unused_zero r
   unfolding unused_zero
-  value-alone z u c l = rw (z, u, c, l) refl
+  value_alone z u c l = rw (z, u, c, l) refl

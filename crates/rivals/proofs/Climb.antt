@@ -11,12 +11,12 @@ use lib.ListN.{length, get_or}
 use borrow.Author.Tests.{eq-eqb, ne_eqb}
 use Rattle.order.specs.Cells.{count, place_from, is_order}
 use Rattle.order.proofs.Cells.{order_true, lt_cases, eq_cases, tally-eq, tally-ne}
-use Rattle.order.proofs.Places.{cell-stands}
+use Rattle.order.proofs.Places.{cell_stands}
 use Rattle.group.specs.Levels.{level}
 use Rattle.push_up.specs.PushUp.{singles, top, floor_over, lift, raise}
 use Rattle.group.proofs.Levels.{level_put, at_most_length}
 use Rattle.push_up.proofs.Minimal.{raise_above}
-use Rattle.push_up.proofs.Orders.{CellsOf, cells_tail, first_low, first-high, first-new, order_shows, Falling, shows-falling}
+use Rattle.push_up.proofs.Orders.{CellsOf, cells_tail, first_low, first_high, first_new, order_shows, Falling, shows_falling}
 
 -- ---- places
 
@@ -52,8 +52,8 @@ peak_last old p c =
 
 -- a cell that comes to stand first is as high as it was, or one above the one below it
 module _ (old : List ℕ) (p c : ℕ) (cs : List ℕ) (new : count c cs ≡ 0) (h : ℕ) (k : Peak old (suc p) cs h) where
-  peak-over : (x : ℕ) → 1 ≤ count x (c ∷ cs) → level old x + place_from p (c ∷ cs) x ≤ max (level old c) (h + 1) + p
-  peak-over x l =
+  peak_over : (x : ℕ) → 1 ≤ count x (c ∷ cs) → level old x + place_from p (c ∷ cs) x ≤ max (level old c) (h + 1) + p
+  peak_over x l =
       ⊎_elim (λ t. omega (arith, ap (level old) t.0, ap (place_from p (c ∷ cs)) t.0, place_here p c cs))
       (λ t. omega (arith, place_later p x c cs t.0, k.over x (omega (arith, tally-ne c x t.0))))
       (eq_cases c x)
@@ -61,17 +61,17 @@ module _ (old : List ℕ) (p c : ℕ) (cs : List ℕ) (new : count c cs ≡ 0) (
   other : c ≡ k.cell → ⊥
   other e = omega (arith, ap (λ (x : ℕ). count x cs) e, k.listed)
 
-  peak-more : Peak old p (c ∷ cs) (max (level old c) (h + 1))
-  peak-more =
+  peak_more : Peak old p (c ∷ cs) (max (level old c) (h + 1))
+  peak_more =
       ⊎_elim
       (λ t. record {
-        over = peak-over;
+        over = peak_over;
         cell = k.cell;
         listed = omega (arith, k.listed);
         there = omega (arith, place_later p k.cell c cs other, k.there);
       })
       (λ t. record {
-        over = peak-over;
+        over = peak_over;
         cell = c;
         listed = omega (arith, tally-eq c c refl);
         there = omega (arith, place_here p c cs);
@@ -83,7 +83,7 @@ first_level : {n : ℕ} (old : List ℕ) (c : ℕ) (cs : List ℕ) → CellsOf n
     → level (raise 1 (singles (c ∷ cs)) old) c ≡ max (level old c) (floor_over 1 (singles cs) (raise 1 (singles cs) old))
 unfolding singles raise lift
 first_level old c cs s l =
-    level_put (raise 1 (singles cs) old) c _ (omega (arith, at_most_length (raise_above 1 (singles cs) old), first_low s, first-high s))
+    level_put (raise 1 (singles cs) old) c _ (omega (arith, at_most_length (raise_above 1 (singles cs) old), first_low s, first_high s))
 
 -- with no cell below it there is no floor, else it is one above the cell below
 floor_none : (ls : List ℕ) → floor_over 1 (singles []) ls ≡ 0
@@ -100,7 +100,7 @@ raise_peak old p c [] s l = rw (first_level old c [] s l, floor_none (raise 1 (s
 raise_peak old p c (d ∷ ds) s l =
     let new = raise 1 (singles (d ∷ ds)) old in
     rw (first_level old c (d ∷ ds) s l, floor_first d ds new)
-    (peak-more old p c (d ∷ ds) (first-new s) (level new d) (raise_peak old (suc p) d ds (cells_tail s) l))
+    (peak_more old p c (d ∷ ds) (first_new s) (level new d) (raise_peak old (suc p) d ds (cells_tail s) l))
 
 -- ---- the first cell is the highest
 
@@ -110,9 +110,9 @@ falling_first xs ls f zero l = le_refl _
 falling_first xs ls f (suc i) l = omega (arith, f i l, falling_first xs ls f i (omega arith))
 
 module _ (n : ℕ) (v : List ℕ) (q : is_order n v ≡ true) where
-  pub first-highest : (ls : List ℕ) → n ≤ length ls → (c : ℕ) → 1 ≤ c → c ≤ n
+  pub first_highest : (ls : List ℕ) → n ≤ length ls → (c : ℕ) → 1 ≤ c → c ≤ n
       → level (raise 1 (singles v) ls) c ≤ level (raise 1 (singles v) ls) (get_or v 0 0)
-  first-highest ls l c low high =
-      let s = cell-stands n v (order_true n v q) c low high in
+  first_highest ls l c low high =
+      let s = cell_stands n v (order_true n v q) c low high in
       let new = raise 1 (singles v) ls in
-      omega (arith, ap (level new) s.there, falling_first v new (shows-falling 1 v new (order_shows 1 n v ls q l)) s.index s.inside)
+      omega (arith, ap (level new) s.there, falling_first v new (shows_falling 1 v new (order_shows 1 n v ls q l)) s.index s.inside)

@@ -2,8 +2,8 @@
 -- written from levels n down to 1 along u.
 -- Assumes nothing.
 --
---   cost-is-rise    the sentence
---   stairs-fall     there are such levels
+--   cost_is_rise    the sentence
+--   stairs_fall     there are such levels
 use Prim.Native.Nat.{ℕ, zero, suc, ◌+◌, ◌-◌, ◌≤◌, ◌<◌}
 use native.Mathlib.Nat.{not-suc-le-zero, le_of_suc-le-suc, le_antisymm}
 use native.Mathlib.Omega.{arith}
@@ -15,19 +15,19 @@ use lib.IntN.{pos, sub_ℕ}
 use lib.Signed.{◌≤ℤ◌}
 use Rattle.order.specs.Cells.{tabulate, place_of, is_order}
 use Rattle.order.proofs.Cells.{IsOrder, order_true, order_count, order_range}
-use Rattle.order.proofs.Places.{cell-stands}
-use Rattle.order.proofs.Tabulate.{length-tabulate, get_d_tabulate}
+use Rattle.order.proofs.Places.{cell_stands}
+use Rattle.order.proofs.Tabulate.{length_tabulate, get_d_tabulate}
 use Rattle.cost.specs.Cost.{displacement, cost}
 use Rattle.cost.proofs.Signs.{≤ℤ-antisym, sub_rise, sub_most}
-use Rattle.cost.proofs.Costs.{cost-largest}
+use Rattle.cost.proofs.Costs.{cost_largest}
 use Rattle.group.specs.Levels.{level}
 use Rattle.push_up.specs.PushUp.{singles, top}
 use Rattle.group.proofs.Levels.{at_most_level}
 use Rattle.push_up.proofs.Minimal.{raise_above}
 use Rattle.push_up.proofs.Orders.{CellsOf, order_cells, listed_range}
-use Rattle.push_up.proofs.Stairs.{stairs, stairs-at}
+use Rattle.push_up.proofs.Stairs.{stairs, stairs_at}
 use Rattle.rivals.specs.Rise.{top_level, written, Staircase}
-use Rattle.rivals.proofs.Climb.{Peak, raise_peak, first-highest}
+use Rattle.rivals.proofs.Climb.{Peak, raise_peak, first_highest}
 
 -- ---- the top level
 
@@ -54,7 +54,7 @@ top_is n ls d low high all =
     cells = tabulate n suc
 
     size : length cells ≡ n
-    size = length-tabulate n suc
+    size = length_tabulate n suc
 
     at : (i : ℕ) → i < n → get_or cells i 0 ≡ suc i
     at i l = get_d_tabulate n suc i 0 l
@@ -69,15 +69,15 @@ module _ (n : ℕ) (u : List ℕ) (p : is_order n u ≡ true) where
   o = order_true n u p
 
   -- a cell's level and its rank come to n + 1
-  stair-rank : (ls : List ℕ) → Staircase n u ls → (c : ℕ) → 1 ≤ c → c ≤ n → level ls c + place_of u c ≡ suc n
+  stair_rank : (ls : List ℕ) → Staircase n u ls → (c : ℕ) → 1 ≤ c → c ≤ n → level ls c + place_of u c ≡ suc n
   unfolding place_of
-  stair-rank ls s c low high =
-      let t = cell-stands n u o c low high in
+  stair_rank ls s c low high =
+      let t = cell_stands n u o c low high in
       omega (arith, ap (level ls) t.there, s.along t.index (omega (arith, t.inside, o.size)), t.place, t.inside, o.size)
 
   -- there are levels n down to 1
-  pub stairs-fall : Staircase n u (stairs n n u)
-  stairs-fall = record { along = λ k l. stairs-at n u p n k l }
+  pub stairs_fall : Staircase n u (stairs n n u)
+  stairs_fall = record { along = λ k l. stairs_at n u p n k l }
 
 -- ---- the theorem
 
@@ -93,16 +93,16 @@ module _ (n : ℕ) (u v ls : List ℕ) (low : 1 ≤ n) (p : is_order n u ≡ tru
   ov = order_true n v q
 
   -- before the write the first cell of u is the highest, at n
-  pub top-before : top_level n ls ≡ n
+  pub top_before : top_level n ls ≡ n
   unfolding place_of
-  top-before =
+  top_before =
       let r = order_range n u ou 0 low in
       let e : level ls (get_or u 0 0) ≡ n = s.along 0 low ∙ omega arith in
-      top_is n ls (get_or u 0 0) r.0 r.1 (λ c l m. omega (arith, stair-rank n u p ls s c l m, (cell-stands n u ou c l m).place)) ∙ e
+      top_is n ls (get_or u 0 0) r.0 r.1 (λ c l m. omega (arith, stair_rank n u p ls s c l m, (cell_stands n u ou c l m).place)) ∙ e
 
   -- after it the first cell of v is
-  pub top-after : top_level n (written v ls) ≡ level (written v ls) (get_or v 0 0)
-  top-after = let r = order_range n v ov 0 low in top_is n (written v ls) (get_or v 0 0) r.0 r.1 (first-highest n v q ls w)
+  pub top_after : top_level n (written v ls) ≡ level (written v ls) (get_or v 0 0)
+  top_after = let r = order_range n v ov 0 low in top_is n (written v ls) (get_or v 0 0) r.0 r.1 (first_highest n v q ls w)
 
   -- the level of that cell
   abbrev h : ℕ
@@ -111,34 +111,34 @@ module _ (n : ℕ) (u v ls : List ℕ) (low : 1 ≤ n) (p : is_order n u ≡ tru
   not_lower : n ≤ h
   not_lower =
       let r = order_range n u ou 0 low in
-      omega (arith, s.along 0 low, at_most_level (get_or u 0 0) (raise_above 1 (singles v) ls), first-highest n v q ls w (get_or u 0 0) r.0 r.1)
+      omega (arith, s.along 0 low, at_most_level (get_or u 0 0) (raise_above 1 (singles v) ls), first_highest n v q ls w (get_or u 0 0) r.0 r.1)
 
   peak : Peak ls 1 v h
   peak = order_peak v ls (omega (arith, ov.size)) (order_cells n v ov) w
 
   -- no displacement is above the rise to h, and one is equal to it
-  displaced-over : (c : ℕ) → 1 ≤ c → c ≤ n → displacement u v c ≤ℤ pos (h - n)
+  displaced_over : (c : ℕ) → 1 ≤ c → c ≤ n → displacement u v c ≤ℤ pos (h - n)
   unfolding displacement place_of
-  displaced-over c l m =
+  displaced_over c l m =
       let e : suc (c - 1) ≡ c = omega arith in
       let listed = rw e at (order_count n v ov (c - 1) (omega arith)) in
-      sub_most (place_of v c) (place_of u c) (h - n) (omega (arith, peak.over c (omega arith), stair-rank n u p ls s c l m, not_lower))
+      sub_most (place_of v c) (place_of u c) (h - n) (omega (arith, peak.over c (omega arith), stair_rank n u p ls s c l m, not_lower))
 
-  peak-range : (1 ≤ peak.cell) × (peak.cell ≤ n)
-  peak-range = listed_range n v (order_cells n v ov) peak.cell peak.listed
+  peak_range : (1 ≤ peak.cell) × (peak.cell ≤ n)
+  peak_range = listed_range n v (order_cells n v ov) peak.cell peak.listed
 
-  displaced-there : displacement u v peak.cell ≡ pos (h - n)
+  displaced_there : displacement u v peak.cell ≡ pos (h - n)
   unfolding displacement place_of
-  displaced-there =
+  displaced_there =
       sub_rise (place_of v peak.cell) (place_of u peak.cell) (h - n)
-      (omega (arith, peak.there, stair-rank n u p ls s peak.cell peak-range.0 peak-range.1, not_lower))
+      (omega (arith, peak.there, stair_rank n u p ls s peak.cell peak_range.0 peak_range.1, not_lower))
 
-  cost-is : cost n u v ≡ pos (h - n)
-  cost-is =
-      let most = cost-largest n u v low in
-      ≤ℤ-antisym (rw most.there at (displaced-over most.cell most.from most.up_to))
-      (rw displaced-there at (most.over peak.cell peak-range.0 peak-range.1))
+  cost_is : cost n u v ≡ pos (h - n)
+  cost_is =
+      let most = cost_largest n u v low in
+      ≤ℤ-antisym (rw most.there at (displaced_over most.cell most.from most.up_to))
+      (rw displaced_there at (most.over peak.cell peak_range.0 peak_range.1))
 
   -- the cost is the rise of the top level
-  pub cost-is-rise : cost n u v ≡ sub_ℕ (top_level n (written v ls)) (top_level n ls)
-  cost-is-rise = rw (top-before, top-after) (cost-is ∙ sym (sub_rise h n (h - n) (omega (arith, not_lower))))
+  pub cost_is_rise : cost n u v ≡ sub_ℕ (top_level n (written v ls)) (top_level n ls)
+  cost_is_rise = rw (top_before, top_after) (cost_is ∙ sym (sub_rise h n (h - n) (omega (arith, not_lower))))

@@ -12,7 +12,7 @@ use native.Mathlib.Nat.{add-zero, add_assoc, zero-add, le_refl}
 use native.Mathlib.Omega.{arith}
 use Rattle.order.specs.declared.Refusal.TheVariants.{Size, Worn, Spent, Endurance}
 use Rattle.order.specs.Refusals.{number_of, if_done, Told, is_size}
-use Rattle.order.proofs.Refusals.{all_hold, check-holds, told-done}
+use Rattle.order.proofs.Refusals.{all_hold, check_holds, told_done}
 use Rattle.group.specs.declared.Group.{Group}
 use Rattle.group.specs.Levels.{AtMost, rises, sum}
 use Rattle.group.specs.Record.{is_endurance, opened, no_group, IsGroup}
@@ -31,7 +31,7 @@ use Rattle.plain_machine.specs.declared.Call.{Call}
 use Rattle.engine.specs.Scrub.{quiet}
 use Rattle.plain_machine.specs.Machine.{writes, target_by, target, earlier_checks, apply_of, checks}
 use Rattle.rivals.specs.Rivals.{Rival, standing, Raised, Follows, Moves, entrant, latest, after, pulses_of, plain_after, Course, rest, next, plain, own, is_worn_or_spent, Raisable, Demand3, Begun, by_open, by_take_over, MeetsDemand3}
-use Rattle.plain_machine.proofs.Machine.{accept_by, accept, apply_number, apply_value, same_group, apply_group, target_shows, last-decide, done-pushes, done-checks, done_held, kept_rises, apply_rises}
+use Rattle.plain_machine.proofs.Machine.{accept_by, accept, apply_number, apply_value, same_group, apply_group, target_shows, last_decide, done_pushes, done_checks, done_held, kept_rises, apply_rises}
 use Rattle.rivals.proofs.NoDearer.{NoDearer, no_dearer_refl, no_dearer_levels, no_dearer_used, no_dearer_raised, no_dearer_leaked, no_dearer_erased}
 
 -- the rival r beside the group g, whose answers have added up to q
@@ -145,7 +145,7 @@ our_raise mark g q c h w e =
     let held = done_held g c w e in
     record {
       no_lower = raise_above 1 (target g c) g.levels;
-      shows = target_shows g c h w (done-checks g c w e).0;
+      shows = target_shows g c h w (done_checks g c w e).0;
       within = held.0;
       same_caps = refl;
       tallies = refl;
@@ -220,21 +220,21 @@ module _ (g : Group) (h : IsGroup g) (cs : List Call) where
   unfolding entrant
   side ss k = beside_course 0 h refl k (record { caps = refl; endurance = refl; cells = no_dearer_refl g.used g.levels (h.used ∙ sym h.levels); cost = le_refl _ })
 
-  open-passes : (c : Call) → Open c → number_of (push_checks now (target now c)) ≡ 0
+  open_passes : (c : Call) → Open c → number_of (push_checks now (target now c)) ≡ 0
   unfolding Raisable
-  open-passes c k = room now _ _ k.2 _ (side k.0 k.1) k.3
+  open_passes c k = room now _ _ k.2 _ (side k.0 k.1) k.3
 
-  done-open : (c : Call) → writes c.kind ≡ true → number_of (checks now c) ≡ 0 → Open c
+  done_open : (c : Call) → writes c.kind ≡ true → number_of (checks now c) ≡ 0 → Open c
   unfolding Raisable entrant
-  done-open c w e =
+  done_open c w e =
       (own apply_of g 0 cs, our_course g 0 cs h, _, rw (← our_end g 0 cs h) at (our_raise true now (0 + so_far) c (group_after_lem g cs h) w e))
 
-  not-open : (c : Call) → writes c.kind ≡ true → number_of (earlier_checks now c) ≡ 0 → is_worn_or_spent (apply_of now c).number ≡ true → ¬ (Open c)
-  not-open c w e stuck k = false≢true (rw (apply_number now c, done-pushes now c w e (open-passes c k)) at stuck)
+  not_open : (c : Call) → writes c.kind ≡ true → number_of (earlier_checks now c) ≡ 0 → is_worn_or_spent (apply_of now c).number ≡ true → ¬ (Open c)
+  not_open c w e stuck k = false≢true (rw (apply_number now c, done_pushes now c w e (open_passes c k)) at stuck)
 
-  shut-stuck : (c : Call) → writes c.kind ≡ true → number_of (earlier_checks now c) ≡ 0 → ¬ (Open c) → is_worn_or_spent (apply_of now c).number ≡ true
-  shut-stuck c w e shut =
-      ⊎_elim (λ f. absurd (shut (done-open c w (done-pushes now c w e f)))) (λ f. rw (apply_number now c, last-decide now c w e) f)
+  shut_stuck : (c : Call) → writes c.kind ≡ true → number_of (earlier_checks now c) ≡ 0 → ¬ (Open c) → is_worn_or_spent (apply_of now c).number ≡ true
+  shut_stuck c w e shut =
+      ⊎_elim (λ f. absurd (shut (done_open c w (done_pushes now c w e f)))) (λ f. rw (apply_number now c, last_decide now c w e) f)
       (done_or_stuck (fits now (target now c)) (lasts now (target now c)))
 
   pub demand3 : Demand3 apply_of g cs
@@ -244,11 +244,11 @@ module _ (g : Group) (h : IsGroup g) (cs : List Call) where
         answered = apply_number now;
         handed = λ c. rw (plain_ours g cs);
         lowest = λ ss k. beside_low (side ss k);
-        least-used = λ ss k. no_dearer_used (side ss k).cells;
+        least_used = λ ss k. no_dearer_used (side ss k).cells;
         cheapest = λ ss k. let b = side ss k in omega (arith, b.cost, sum_mono (beside_low b));
         ours = our_course g 0 cs h;
         exact = ap (λ (r : Rival). r.pulses) (our_end g 0 cs h) ∙ zero-add so_far;
-        stuck-exactly = λ c w e. rw (plain_ours g cs) (not-open c w e, shut-stuck c w e);
+        stuck_exactly = λ c w e. rw (plain_ours g cs) (not_open c w e, shut_stuck c w e);
       }
 
 -- ---- the two beginnings: a freshly opened group, as the mission has it, and one that was taken over
@@ -263,5 +263,5 @@ demand3_begun g b cs = demand3 g (begun_group b) cs
 pub opened_group : (n e : ℕ) → is_size n ≡ true → is_endurance e ≡ true → IsGroup (opened n e)
 unfolding open_of
 opened_group n e s l =
-    let told = told-done (open_checks n e) (opened n e) no_group (check-holds Size _ s ∙ check-holds Endurance [] l ∙ all_hold) in
+    let told = told_done (open_checks n e) (opened n e) no_group (check_holds Size _ s ∙ check_holds Endurance [] l ∙ all_hold) in
     rw (sym (ap (λ (t : Told Group). t.value) told)) at (open_group n e (sym (ap (λ (t : Told Group). t.number) told)))

@@ -15,7 +15,7 @@ use Rattle.order.specs.Refusals.{number_of, Told, answer}
 use Rattle.order.specs.Cells.{tabulate, each_once, is_order, all_zero, is_listing}
 use Rattle.order.specs.Order.{cell_numbers, is_order_of, order_record}
 use Rattle.coordinates.specs.Coordinates.{coordinate_of, coordinates_to, weight}
-use Rattle.decoder.specs.Decoding.{leaves, is_codeword, first_below, correction}
+use Rattle.decoder.specs.Decoding.{leaves, is_codeword, first_below_lem, correction}
 use Rattle.group.specs.Levels.{level, put, AtMost, at_most, sum, rises, tallied}
 use Rattle.push_up.specs.PushUp.{singles, top, floor_over, Reach, Shows, lift, raise, push_of, rank_pushes, pushes, pulses_in}
 use Rattle.group.specs.declared.Group.{Group}
@@ -27,7 +27,7 @@ use Rattle.engine.specs.ReadStore.{read_of}
 use Rattle.group.proofs.Levels.{at_most_true, at_most_level}
 use Rattle.plain_machine.specs.declared.Kind.{Kind}
 use Rattle.plain_machine.specs.declared.Kind.TheVariants.{Write, WriteInto, WriteShared, WriteSharedInto, Store, Scrub, Leak, Wear, Erase, Read}
-use Rattle.sharing.specs.Shared.{each_filled, is_sizes, by_number, ranks_of, write_shared_of, plain_target}
+use Rattle.sharing.specs.Shared.{each_filled, is_sizes, by_number_lem, ranks_of, write_shared_of, plain_target}
 use Rattle.plain_machine.specs.declared.Call.{Call}
 use Rattle.engine.specs.Scrub.{Step, quiet}
 use Rattle.plain_machine.specs.Machine.{writes, target, apply_of}
@@ -75,20 +75,20 @@ module _ (run : Machine) where
   fails cs fault meets = fault (meets start (by_open 3 1000000 refl) cs)
 
   -- it says worn where a rival can be raised
-  worn-refuted : (run start call).number ≡ 8 → ¬ (MeetsDemand3 run)
+  worn_refuted : (run start call).number ≡ 8 → ¬ (MeetsDemand3 run)
   unfolding Raisable latest after plain number_of is_row all_at_most order_record cell_numbers is_order_of is_listing is_order each_once all_zero
-  worn-refuted e = fails [] (λ d. (d.stuck-exactly call refl refl).0 (ap is_worn_or_spent e) ([], rest, course, course_raised))
+  worn_refuted e = fails [] (λ d. (d.stuck_exactly call refl refl).0 (ap is_worn_or_spent e) ([], rest, course, course_raised))
 
   -- it goes higher than the plain machine does
-  high-refuted : (run start call).number ≡ 0 → ¬ (AtMost (run start call).value.group.levels least)
+  high_refuted : (run start call).number ≡ 0 → ¬ (AtMost (run start call).value.group.levels least)
       → ¬ (MeetsDemand3 run)
   unfolding latest after Moves Follows
-  high-refuted e high = fails (call ∷ []) (λ d. high (d.lowest (course ∷ []) (next (rw e course_raised) rest)))
+  high_refuted e high = fails (call ∷ []) (λ d. high (d.lowest (course ∷ []) (next (rw e course_raised) rest)))
 
   -- it reports more pulses
-  dear-refuted : (run start call).number ≡ 0 → 3 < (run start call).value.pulses → ¬ (MeetsDemand3 run)
+  dear_refuted : (run start call).number ≡ 0 → 3 < (run start call).value.pulses → ¬ (MeetsDemand3 run)
   unfolding latest pulses_of Moves Follows
-  dear-refuted e dear = fails (call ∷ []) (λ d. let spent = d.cheapest (course ∷ []) (next (rw e course_raised) rest) in omega arith)
+  dear_refuted e dear = fails (call ∷ []) (λ d. let spent = d.cheapest (course ∷ []) (next (rw e course_raised) rest) in omega arith)
 
 -- ---- such machines
 
@@ -98,7 +98,7 @@ quitter g c = record { number = 8; value = quiet g }
 
 pub quitter_refuted : ¬ (MeetsDemand3 quitter)
 unfolding quitter
-quitter_refuted = worn-refuted quitter refl
+quitter_refuted = worn_refuted quitter refl
 
 -- one that says worn to whatever it refuses: a read of a group that is not written is refused 6
 pub blamer : Machine
@@ -140,7 +140,7 @@ eager = otherwise (λ g c. altered (λ h. with_levels h (put h.levels 1 (level h
 
 pub eager_refuted : ¬ (MeetsDemand3 eager)
 unfolding eager level put
-eager_refuted = high-refuted eager (rw plain_answer.0) (λ p. let high = rw (plain_answer.0, plain_answer.1) at (at_most_level 1 p) in omega arith)
+eager_refuted = high_refuted eager (rw plain_answer.0) (λ p. let high = rw (plain_answer.0, plain_answer.1) at (at_most_level 1 p) in omega arith)
 
 -- one that reports more pulses than it spent
 pub boaster : Machine
@@ -148,7 +148,7 @@ boaster = otherwise (λ g c. altered (λ h. h) (λ k. k + 1))
 
 pub boaster_refuted : ¬ (MeetsDemand3 boaster)
 unfolding boaster
-boaster_refuted = dear-refuted boaster (rw plain_answer.0) (rw (plain_answer.0, plain_answer.2) (lit< tt))
+boaster_refuted = dear_refuted boaster (rw plain_answer.0) (rw (plain_answer.0, plain_answer.2) (lit< tt))
 
 -- one that reports no pulses
 pub silent : Machine
@@ -226,7 +226,7 @@ unfolding spoiler after plain plain_after apply_of write_of answer pushed rises 
 spoiler_refuted = fails spoiler (call ∷ []) (λ d. let e : ◌≡◌ {A = ℕ} 1 0 = d.handed call in omega arith)
 
 pub forgetter_refuted : ¬ (MeetsDemand3 forgetter)
-unfolding forgetter after plain plain_after read_of sensed sorted insert stands_above correction first_below is_codeword leaves weight coordinates_to coordinate_of apply_of write_of answer pushed rises tallied number_of is_row all_at_most order_record cell_numbers is_order_of is_listing is_order each_once all_zero fits lasts raised raise lift singles floor_over top level put at_most
+unfolding forgetter after plain plain_after read_of sensed sorted insert stands_above correction first_below_lem is_codeword leaves weight coordinates_to coordinate_of apply_of write_of answer pushed rises tallied number_of is_row all_at_most order_record cell_numbers is_order_of is_listing is_order each_once all_zero fits lasts raised raise lift singles floor_over top level put at_most
 forgetter_refuted = fails forgetter (call ∷ []) (λ d. let e : ◌≡◌ {A = ℕ} 6 0 = d.handed read_call in omega arith)
 
 -- two that go wrong at a shared write, here of cells 1 and 2 above cell 3: one sets the mark, so that a read finds a symbol where the plain machine is blank; one
@@ -238,7 +238,7 @@ pub keeper : Machine
 keeper = otherwise (λ g c. altered (λ h. with_mark true h) (λ k. k))
 
 pub keeper_refuted : ¬ (MeetsDemand3 keeper)
-unfolding keeper after plain plain_after read_of sensed sorted insert stands_above correction first_below is_codeword leaves weight coordinates_to coordinate_of apply_of write_shared_of sum each_filled is_sizes by_number ranks_of answer pushed rises tallied number_of is_row all_at_most order_record cell_numbers is_order_of is_listing is_order each_once all_zero fits lasts raised raise lift floor_over top level put at_most
+unfolding keeper after plain plain_after read_of sensed sorted insert stands_above correction first_below_lem is_codeword leaves weight coordinates_to coordinate_of apply_of write_shared_of sum each_filled is_sizes by_number_lem ranks_of answer pushed rises tallied number_of is_row all_at_most order_record cell_numbers is_order_of is_listing is_order each_once all_zero fits lasts raised raise lift floor_over top level put at_most
 keeper_refuted = fails keeper (shared_call ∷ []) (λ d. let e : ◌≡◌ {A = ℕ} 0 6 = d.handed read_call in omega arith)
 
 unfoldable pub stacker : Machine
@@ -248,7 +248,7 @@ abbrev shared_course : Rival
 shared_course = record { levels = 1 ∷ 1 ∷ 0 ∷ replicate 9 0; caps = start.caps; used = 1 ∷ 1 ∷ 0 ∷ replicate 9 0; endurance = 1000000; pulses = 2 }
 
 pub stacker_refuted : ¬ (MeetsDemand3 stacker)
-unfolding stacker flatten latest after plain_after entrant Moves Follows apply_of write_shared_of sum each_filled is_sizes by_number ranks_of answer pushed rises tallied number_of is_row all_at_most order_record cell_numbers is_order_of is_listing is_order each_once all_zero fits lasts raised raise lift singles floor_over top level put at_most Shows Reach
+unfolding stacker flatten latest after plain_after entrant Moves Follows apply_of write_shared_of sum each_filled is_sizes by_number_lem ranks_of answer pushed rises tallied number_of is_row all_at_most order_record cell_numbers is_order_of is_listing is_order each_once all_zero fits lasts raised raise lift singles floor_over top level put at_most Shows Reach
 stacker_refuted =
     fails stacker (shared_call ∷ [])
     (λ d.
@@ -305,7 +305,7 @@ unfolding hasty Raisable latest after plain plain_after entrant Moves Follows we
 hasty_refuted =
     fails hasty (call ∷ worn_call ∷ [])
     (λ d.
-    (d.stuck-exactly call refl refl).0 refl (
+    (d.stuck_exactly call refl refl).0 refl (
       course ∷ worn_course ∷ [],
       next course_raised (next refl rest),
       worn_course,

@@ -1,5 +1,5 @@
 -- Demand 3 speaks of something: from a group that was opened or taken over no list of calls meets the numbers 1 and 2. Of an opened group, for every n from 3
--- to 12 and every endurance from n - 1 on, a first write is done, whatever its order, and a first store, whatever its symbol (there is one: `some-symbol`,
+-- to 12 and every endurance from n - 1 on, a first write is done, whatever its order, and a first store, whatever its symbol (there is one: `some_symbol`,
 -- code/Laws), and a scrub that comes next; and, where the endurance is 4,095 or more, a first shared write, whatever its target. Into a lent list they are done where
 -- that has n - 1 places or more, and refused 10 where it has fewer. Worn is given too, and spent. Any group can be taken over as it stands, but for the mark:
 -- `taken_as_it_stands` (take_over/Taken).
@@ -20,9 +20,9 @@ use Rattle.order.specs.declared.Refusal.TheVariants.{NoOrder, ListShort, RankSiz
 use Rattle.order.specs.Refusals.{refusal_number, number_of, answer, is_size}
 use Rattle.order.specs.Cells.{each_once, is_order, all_zero, is_listing}
 use Rattle.order.specs.Order.{cell_numbers, listed, is_order_of, order_record, no_order}
-use Rattle.order.proofs.Refusals.{all_hold, check-holds, check-fails, later-decide, size_true}
-use Rattle.order.proofs.Check.{order-parts}
-use Rattle.order.proofs.Records.{recorded-order}
+use Rattle.order.proofs.Refusals.{all_hold, check_holds, check_fails, later_decide, size_true}
+use Rattle.order.proofs.Check.{order_parts}
+use Rattle.order.proofs.Records.{recorded_order}
 use Rattle.coordinates.specs.Coordinates.{order_from}
 use Rattle.coordinates.specs.Conversion.{coordinate_at}
 use Rattle.coordinates.proofs.RoundTrip.{order_of_any}
@@ -37,22 +37,22 @@ use Rattle.push_up.proofs.Minimal.{Each, raise_above}
 use Rattle.group.proofs.Levels.{at_most_true, at_most_length}
 use Rattle.group.proofs.LevelRows.{all_below, all_under, row_true}
 use Rattle.group.proofs.Tallies.{tallied_fresh}
-use Rattle.group.proofs.Checks.{checked-caps}
+use Rattle.group.proofs.Checks.{checked_caps}
 use Rattle.push_up.proofs.FullCaps.{low_fits}
 use Rattle.push_up.proofs.Writes.{push_holds}
-use Rattle.push_up.proofs.Stairs.{stairs, zeros_under, length-stairs, stairs-fit, stairs-last}
+use Rattle.push_up.proofs.Stairs.{stairs, zeros_under, length_stairs, stairs_fit, stairs_last}
 use Rattle.engine.proofs.Scrubs.{store_scrubs}
 use Rattle.sharing.specs.declared.Ranked.{Ranked}
 use Rattle.sharing.specs.Shared.{sizes_of, is_sizes, shared_target, plain_target, ones_target}
 use Rattle.sharing.proofs.Targets.{sizes_true, shared_target_lem}
 use Rattle.sharing.proofs.Loops.{ranks_length}
-use Rattle.sharing.proofs.Ones.{ones-sizes}
+use Rattle.sharing.proofs.Ones.{ones_sizes}
 use Rattle.plain_machine.specs.declared.Kind.{Kind}
 use Rattle.plain_machine.specs.declared.Kind.TheVariants.{Write, WriteInto, WriteShared, WriteSharedInto, Store, Scrub, Leak, Wear, Erase, Read}
 use Rattle.plain_machine.specs.declared.Call.{Call}
 use Rattle.plain_machine.specs.Machine.{apply_of, checks_by, checks}
 use Rattle.rivals.specs.Rivals.{after, Begun}
-use Rattle.plain_machine.proofs.Machine.{apply_number, done-pushes}
+use Rattle.plain_machine.proofs.Machine.{apply_number, done_pushes}
 use Rattle.rivals.proofs.Demand3.{group_after_lem, begun_group, opened_group}
 
 -- ---- the numbers 1 and 2 never come
@@ -69,33 +69,33 @@ other_number ((false, r) ∷ list) e = inr e.0
 
 module _ (g : Group) (e : number_of (group_checks g) ≡ 0) where
   past : (list : List (Bool × Refusal)) → Each (λ (k : Bool × Refusal). 2 < refusal_number k.1) list → Other (number_of (group_checks g ++ list))
-  past list h = rw (later-decide list (group_checks g) e) (other_number list h)
+  past list h = rw (later_decide list (group_checks g) e) (other_number list h)
 
-  other-by : (a : Ranked) (k : Kind) → Other (number_of (checks_by g a k))
-  other-by a Write = past _ (lit< tt, (lit< tt, (lit< tt, tt)))
-  other-by a (WriteInto room) = past _ (lit< tt, (lit< tt, (lit< tt, (lit< tt, tt))))
-  other-by a WriteShared = past _ (lit< tt, (lit< tt, (lit< tt, (lit< tt, tt))))
-  other-by a (WriteSharedInto room) = past _ (lit< tt, (lit< tt, (lit< tt, (lit< tt, (lit< tt, tt)))))
-  other-by a (Store s) = past _ (lit< tt, (lit< tt, (lit< tt, tt)))
-  other-by a Scrub = past _ (lit< tt, (lit< tt, (lit< tt, (lit< tt, tt))))
-  other-by a (Leak c d) = past _ (lit< tt, tt)
-  other-by a (Wear c cap) = past _ (lit< tt, (lit< tt, tt))
-  other-by a Erase = inl e
-  other-by a Read = past _ (lit< tt, (lit< tt, tt))
+  other_by : (a : Ranked) (k : Kind) → Other (number_of (checks_by g a k))
+  other_by a Write = past _ (lit< tt, (lit< tt, (lit< tt, tt)))
+  other_by a (WriteInto room) = past _ (lit< tt, (lit< tt, (lit< tt, (lit< tt, tt))))
+  other_by a WriteShared = past _ (lit< tt, (lit< tt, (lit< tt, (lit< tt, tt))))
+  other_by a (WriteSharedInto room) = past _ (lit< tt, (lit< tt, (lit< tt, (lit< tt, (lit< tt, tt)))))
+  other_by a (Store s) = past _ (lit< tt, (lit< tt, (lit< tt, tt)))
+  other_by a Scrub = past _ (lit< tt, (lit< tt, (lit< tt, (lit< tt, tt))))
+  other_by a (Leak c d) = past _ (lit< tt, tt)
+  other_by a (Wear c cap) = past _ (lit< tt, (lit< tt, tt))
+  other_by a Erase = inl e
+  other_by a Read = past _ (lit< tt, (lit< tt, tt))
 
 -- the group after any list of calls passes the checks of a record, and no next call is refused by them
 module _ (g : Group) (b : Begun g) (cs : List Call) where
-  pub passes-after : number_of (group_checks (after apply_of g cs)) ≡ 0
-  passes-after = (group_after_lem g cs (begun_group b)).passes
+  pub passes_after : number_of (group_checks (after apply_of g cs)) ≡ 0
+  passes_after = (group_after_lem g cs (begun_group b)).passes
 
   other_after : (c : Call) → Other (apply_of (after apply_of g cs) c).number
-  other_after c = rw (apply_number (after apply_of g cs) c) (other-by (after apply_of g cs) passes-after c.target c.kind)
+  other_after c = rw (apply_number (after apply_of g cs) c) (other_by (after apply_of g cs) passes_after c.target c.kind)
 
-  pub never-size : (c : Call) → (apply_of (after apply_of g cs) c).number ≢ 1
-  never-size c e = ⊎_elim (λ z. omega arith) (λ z. omega arith) (other_after c)
+  pub never_size : (c : Call) → (apply_of (after apply_of g cs) c).number ≢ 1
+  never_size c e = ⊎_elim (λ z. omega arith) (λ z. omega arith) (other_after c)
 
-  pub never-no-group : (c : Call) → (apply_of (after apply_of g cs) c).number ≢ 2
-  never-no-group c e = ⊎_elim (λ z. omega arith) (λ z. omega arith) (other_after c)
+  pub never_no_group : (c : Call) → (apply_of (after apply_of g cs) c).number ≢ 2
+  never_no_group c e = ⊎_elim (λ z. omega arith) (λ z. omega arith) (other_after c)
 
 -- ---- every order fits an opened group
 
@@ -103,8 +103,8 @@ opened_passes : (n e : ℕ) → is_size n ≡ true → n - 1 ≤ e → (xs : Lis
 opened_passes n e size enough xs t =
     let (low, high) = size_true n size in
     let h = n - 1 in
-    let under = rw (length-stairs n xs t h high) at (zeros_under (stairs h n xs)) in
-    push_holds (opened n e) (singles xs) (stairs-fit n xs t h (opened n e) refl under (omega arith) (omega arith)) (stairs-last n xs t h (opened n e) refl under (omega arith) high enough)
+    let under = rw (length_stairs n xs t h high) at (zeros_under (stairs h n xs)) in
+    push_holds (opened n e) (singles xs) (stairs_fit n xs t h (opened n e) refl under (omega arith) (omega arith)) (stairs_last n xs t h (opened n e) refl under (omega arith) high enough)
 
 -- ---- first calls
 
@@ -131,7 +131,7 @@ fresh_lasts : (g : Group) (t : List (List ℕ)) → g.used ≡ replicate 12 0 �
 unfolding fits lasts raised
 fresh_lasts g t none h f l =
     let within = at_most_true (raise 1 t g.levels) g.caps f in
-    let low = all_below 4095 within (row_true 4095 g.n g.caps (checked-caps g h.passes)) in
+    let low = all_below 4095 within (row_true 4095 g.n g.caps (checked_caps g h.passes)) in
     rw none (all_below g.endurance (tallied_fresh 12 (raise_above 1 t g.levels) (at_most_length within ∙ h.caps)) (all_under 4095 g.endurance _ l low))
 
 zeros_low : (k i : ℕ) → get_or {A = ℕ} (replicate k 0) i 0 ≤ 0
@@ -141,38 +141,38 @@ zeros_low (suc k) (suc i) = zeros_low k i
 
 module _ (n e : ℕ) (size : is_size n ≡ true) (range : is_endurance e ≡ true) where
   -- past the checks of the record
-  one-check : (b : Bool) (r : Refusal) → b ≡ true → number_of (group_checks (opened n e) ++ (b, r) ∷ []) ≡ 0
-  one-check b r h = later-decide _ (group_checks (opened n e)) (opened_group n e size range).passes ∙ check-holds r [] h ∙ all_hold
+  one_check : (b : Bool) (r : Refusal) → b ≡ true → number_of (group_checks (opened n e) ++ (b, r) ∷ []) ≡ 0
+  one_check b r h = later_decide _ (group_checks (opened n e)) (opened_group n e size range).passes ∙ check_holds r [] h ∙ all_hold
 
-  pub first-write : n - 1 ≤ e → (o : Order) → is_order_of n o ≡ true → (apply_of (opened n e) (writing o)).number ≡ 0
-  first-write enough o t =
+  pub first_write : n - 1 ≤ e → (o : Order) → is_order_of n o ≡ true → (apply_of (opened n e) (writing o)).number ≡ 0
+  first_write enough o t =
       apply_number (opened n e) (writing o)
-      ∙ done-pushes (opened n e) (writing o) refl (one-check _ _ t) (opened_passes n e size enough (listed o) (order-parts n o t).1.order)
+      ∙ done_pushes (opened n e) (writing o) refl (one_check _ _ t) (opened_passes n e size enough (listed o) (order_parts n o t).1.order)
 
   -- into a lent list of n - 1 places or more too; 10 is given where it has fewer, whatever the order
-  pub first-into : n - 1 ≤ e → (o : Order) → is_order_of n o ≡ true → (room : ℕ) → n - 1 ≤ room → (apply_of (opened n e) (writing_into o room)).number ≡ 0
-  first-into enough o t room l =
+  pub first_into : n - 1 ≤ e → (o : Order) → is_order_of n o ≡ true → (room : ℕ) → n - 1 ≤ room → (apply_of (opened n e) (writing_into o room)).number ≡ 0
+  first_into enough o t room l =
       apply_number (opened n e) (writing_into o room)
-      ∙ done-pushes (opened n e) (writing_into o room) refl
-      (later-decide _ (group_checks (opened n e)) (opened_group n e size range).passes ∙ check-holds ListShort _ (le-leb (n - 1) room l) ∙ check-holds NoOrder [] t ∙ all_hold)
-      (opened_passes n e size enough (listed o) (order-parts n o t).1.order)
+      ∙ done_pushes (opened n e) (writing_into o room) refl
+      (later_decide _ (group_checks (opened n e)) (opened_group n e size range).passes ∙ check_holds ListShort _ (le-leb (n - 1) room l) ∙ check_holds NoOrder [] t ∙ all_hold)
+      (opened_passes n e size enough (listed o) (order_parts n o t).1.order)
 
-  pub short-comes : (o : Order) (room : ℕ) → room < n - 1 → (apply_of (opened n e) (writing_into o room)).number ≡ 10
-  short-comes o room l =
+  pub short_comes : (o : Order) (room : ℕ) → room < n - 1 → (apply_of (opened n e) (writing_into o room)).number ≡ 10
+  short_comes o room l =
       apply_number (opened n e) (writing_into o room)
-      ∙ later-decide _ (group_checks (opened n e)) (opened_group n e size range).passes
-      ∙ check-fails ListShort _ (lt-leb (n - 1) room l)
+      ∙ later_decide _ (group_checks (opened n e)) (opened_group n e size range).passes
+      ∙ check_fails ListShort _ (lt-leb (n - 1) room l)
 
-  pub shared-short-comes : (t : Ranked) (room : ℕ) → room < n - 1 → (apply_of (opened n e) (sharing_into t room)).number ≡ 10
-  shared-short-comes t room l =
+  pub shared_short_comes : (t : Ranked) (room : ℕ) → room < n - 1 → (apply_of (opened n e) (sharing_into t room)).number ≡ 10
+  shared_short_comes t room l =
       apply_number (opened n e) (sharing_into t room)
-      ∙ later-decide _ (group_checks (opened n e)) (opened_group n e size range).passes
-      ∙ check-fails ListShort _ (lt-leb (n - 1) room l)
+      ∙ later_decide _ (group_checks (opened n e)) (opened_group n e size range).passes
+      ∙ check_fails ListShort _ (lt-leb (n - 1) room l)
 
   -- a shared write too, whatever its target, in both its forms
   module _ (most : 4095 ≤ e) (t : Ranked) (s : is_sizes n t ≡ true) (o : is_order_of n t.cells ≡ true) where
-    shared-passes : number_of (push_checks (opened n e) (shared_target n t)) ≡ 0
-    shared-passes =
+    shared_passes : number_of (push_checks (opened n e) (shared_target n t)) ≡ 0
+    shared_passes =
         let g = opened n e in
         let rs = shared_target n t in
         let few : length rs ≤ 12 = omega (arith, ranks_length n (sizes_of t) (listed t.cells), length-take t.count t.sizes, (sizes_true n t s).few) in
@@ -180,41 +180,41 @@ module _ (n e : ℕ) (size : is_size n ≡ true) (range : is_endurance e ≡ tru
         let fit = low_fits g rs 0 (omega arith) (λ i. zeros_low 12 i) refl under few (shared_target_lem n t s o) in
         push_holds g rs fit (fresh_lasts g rs refl (opened_group n e size range) fit most)
 
-    pub first-shared : (apply_of (opened n e) (sharing t)).number ≡ 0
-    first-shared =
+    pub first_shared : (apply_of (opened n e) (sharing t)).number ≡ 0
+    first_shared =
         apply_number (opened n e) (sharing t)
-        ∙ done-pushes (opened n e) (sharing t) refl
-        (later-decide _ (group_checks (opened n e)) (opened_group n e size range).passes ∙ check-holds RankSizes _ s ∙ check-holds NoOrder [] o ∙ all_hold) shared-passes
+        ∙ done_pushes (opened n e) (sharing t) refl
+        (later_decide _ (group_checks (opened n e)) (opened_group n e size range).passes ∙ check_holds RankSizes _ s ∙ check_holds NoOrder [] o ∙ all_hold) shared_passes
 
-    pub first-shared-into : (room : ℕ) → n - 1 ≤ room → (apply_of (opened n e) (sharing_into t room)).number ≡ 0
-    first-shared-into room l =
+    pub first_shared_into : (room : ℕ) → n - 1 ≤ room → (apply_of (opened n e) (sharing_into t room)).number ≡ 0
+    first_shared_into room l =
         apply_number (opened n e) (sharing_into t room)
-        ∙ done-pushes (opened n e) (sharing_into t room) refl
-        (later-decide _ (group_checks (opened n e)) (opened_group n e size range).passes ∙ check-holds ListShort _ (le-leb (n - 1) room l) ∙ check-holds RankSizes _ s ∙ check-holds NoOrder [] o ∙ all_hold)
-        shared-passes
+        ∙ done_pushes (opened n e) (sharing_into t room) refl
+        (later_decide _ (group_checks (opened n e)) (opened_group n e size range).passes ∙ check_holds ListShort _ (le-leb (n - 1) room l) ∙ check_holds RankSizes _ s ∙ check_holds NoOrder [] o ∙ all_hold)
+        shared_passes
 
   -- such an order is there: 1 to n, and rank sizes for it, all of them 1
-  pub some-order : is_order_of n (order_record (order_from (λ i. 0) n)) ≡ true
-  some-order = let s = size_true n size in recorded-order n (order_from (λ i. 0) n) (order_of_any (λ i. 0) n) s.0 s.1
+  pub some_order : is_order_of n (order_record (order_from (λ i. 0) n)) ≡ true
+  some_order = let s = size_true n size in recorded_order n (order_from (λ i. 0) n) (order_of_any (λ i. 0) n) s.0 s.1
 
-  pub some-ranks : (o : Order) → is_sizes n (ones_target n o) ≡ true
-  some-ranks o = ones-sizes n o (size_true n size).1
+  pub some_ranks : (o : Order) → is_sizes n (ones_target n o) ≡ true
+  some_ranks o = ones_sizes n o (size_true n size).1
 
   module _ (enough : n - 1 ≤ e) (s : ℕ) (l : s < K n) where
-    word-passes : number_of (push_checks (opened n e) (singles (word_of n s))) ≡ 0
+    word_passes : number_of (push_checks (opened n e) (singles (word_of n s))) ≡ 0
     unfolding word_of
-    word-passes = opened_passes n e size enough (word_of n s) (order_of_any (coordinate_at (word_at n s)) n)
+    word_passes = opened_passes n e size enough (word_of n s) (order_of_any (coordinate_at (word_at n s)) n)
 
-    store-checks : number_of (checks (opened n e) (storing s)) ≡ 0
-    store-checks = done-pushes (opened n e) (storing s) refl (one-check _ _ (lt-ltb s (K n) l)) word-passes
+    store_checks_lem : number_of (checks (opened n e) (storing s)) ≡ 0
+    store_checks_lem = done_pushes (opened n e) (storing s) refl (one_check _ _ (lt-ltb s (K n) l)) word_passes
 
     pub first_store : (apply_of (opened n e) (storing s)).number ≡ 0
-    first_store = apply_number (opened n e) (storing s) ∙ store-checks
+    first_store = apply_number (opened n e) (storing s) ∙ store_checks_lem
 
     -- and a scrub that comes next
-    pub next-scrub : (apply_of (after apply_of (opened n e) (storing s ∷ [])) scrubbing).number ≡ 0
+    pub next_scrub : (apply_of (after apply_of (opened n e) (storing s ∷ [])) scrubbing).number ≡ 0
     unfolding after apply_of
-    next-scrub = store_scrubs (opened n e) s (opened_group n e size range) first_store
+    next_scrub = store_scrubs (opened n e) s (opened_group n e size range) first_store
 
 -- ---- and worn is given: cell 1 capped at 1 can't stand above cell 2, which stands above cell 3
 

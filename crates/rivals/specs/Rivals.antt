@@ -152,7 +152,7 @@ module _ (run : Machine) where
     -- no rival has any cell lower than ours
     pub lowest : (ss : List Rival) → IsRival g cs ss → AtMost (after g cs).levels (latest (entrant g) ss).levels
     -- and, beyond the words of the demand: no rival has a cell that has taken fewer pulses than ours
-    pub least-used : (ss : List Rival) → IsRival g cs ss → AtMost (after g cs).used (latest (entrant g) ss).used
+    pub least_used : (ss : List Rival) → IsRival g cs ss → AtMost (after g cs).used (latest (entrant g) ss).used
     -- every rival has spent at least as many pulses as our answers add up to
     pub cheapest : (ss : List Rival) → IsRival g cs ss → pulses_of g cs ≤ (latest (entrant g) ss).pulses
     -- our own course is one of the rivals
@@ -161,7 +161,7 @@ module _ (run : Machine) where
     pub exact : (latest (entrant g) (own g 0 cs)).pulses ≡ pulses_of g cs
     -- a write, shared write, store or scrub that comes next and passes the earlier checks is refused as worn or as spent exactly when no rival so far can be
     -- raised to show its target within the caps and the endurance
-    pub stuck-exactly : (c : Call) → writes c.kind ≡ true → number_of (earlier_checks (after g cs) c) ≡ 0
+    pub stuck_exactly : (c : Call) → writes c.kind ≡ true → number_of (earlier_checks (after g cs) c) ≡ 0
         → (is_worn_or_spent (run (after g cs) c).number ≡ true) ↔ (¬ (Raisable g cs (target (plain g g cs) c)))
 
   abbrev pub MeetsDemand3 : Type 0

@@ -9,7 +9,7 @@ use mathlib.Core.List.{List, [], ◌∷◌, ◌++◌, append_assoc}
 use lib.ListN.{length, length-append}
 use borrow.Author.Tests.{le-leb}
 use native.Mathlib.Nat.{zero-add}
-use Rattle.order.proofs.Tabulate.{length-tabulate}
+use Rattle.order.proofs.Tabulate.{length_tabulate}
 use Rattle.group.specs.Record.{no_group}
 use Rattle.records.specs.declared.CallRecord.{CallRecord}
 use Rattle.records.specs.Records.{record_at, records}
@@ -56,32 +56,32 @@ after_stands p rs s =
 
 -- no piece of its first 65,536 bytes is refused for where it stands
 module _ (p : Progress) (bs out : List ℕ) (s : Stands p) (few : 8 * p.position + length bs ≤ 65536) (r : room (length bs) ≤ length out) where
-  pub stands-ends : ends p bs out ≡ true
-  stands-ends =
+  pub stands_ends : ends p bs out ≡ true
+  stands_ends =
       let pulses : p.pulses ≤ 4294967295 * p.position = omega (arith, s.small) in
       rw (le-leb (8 * p.position + length bs) 65536 few, le-leb p.pulses (4294967295 * p.position) pulses, le-leb (room (length bs)) (length out) r) refl
 
-  pub stands-goes-on : length bs % 8 ≡ 0 → goes_on p bs out ≡ true
-  stands-goes-on e = rw (e, stands-ends) refl
+  pub stands_goes_on : length bs % 8 ≡ 0 → goes_on p bs out ≡ true
+  stands_goes_on e = rw (e, stands_ends) refl
 
 -- ---- a run in pieces
 
 pub records_length : (bs : List ℕ) → length (records bs) ≡ length bs / 8
 unfolding records
-records_length bs = length-tabulate (length bs / 8) (record_at bs)
+records_length bs = length_tabulate (length bs / 8) (record_at bs)
 
 pieces_from : (p : Progress) (ls : List Lent) (last : Lent) → Stands p → Whole ls → room (length last.bytes) ≤ length last.out
     → 8 * p.position + length (all_bytes ls last.bytes) ≤ 65536
     → all_printed p ls last ≡ text_from p (all_bytes ls last.bytes)
 unfolding end_printed lines_printed piece_of
-pieces_from p [] last s w r few = rw (stands-ends p last.bytes last.out s few r) refl
+pieces_from p [] last s w r few = rw (stands_ends p last.bytes last.out s few r) refl
 pieces_from p (l ∷ ls) last s w r few =
     let rs = records l.bytes in
     let others = all_bytes ls last.bytes in
     let size = length-append l.bytes others in
     let part : 8 * p.position + length l.bytes ≤ 65536 = omega (arith, few, size) in
     let more : 8 * (p.position + length rs) + length others ≤ 65536 = omega (arith, few, size, records_length l.bytes) in
-    rw (stands-goes-on p l.bytes l.out s part w.1 w.0)
+    rw (stands_goes_on p l.bytes l.out s part w.1 w.0)
     (ap (λ (t : List ℕ). lines_from p rs ++ t) (pieces_from (progress_after p rs) ls last (after_stands p rs s) w.2 r more)
     ∙ sym (text_cut p l.bytes others w.0))
 

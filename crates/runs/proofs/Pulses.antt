@@ -11,7 +11,7 @@ use Rattle.order.specs.Refusals.{Told}
 use Rattle.group.specs.declared.Group.{Group}
 use Rattle.group.specs.Record.{all_at_most}
 use Rattle.group.proofs.LevelRows.{row_true, rises_most}
-use Rattle.group.proofs.Checks.{checked-levels}
+use Rattle.group.proofs.Checks.{checked_levels}
 use Rattle.plain_machine.specs.Machine.{apply_of}
 use Rattle.plain_machine.proofs.Machine.{apply_rises}
 use Rattle.records.specs.declared.CallRecord.{CallRecord}
@@ -24,7 +24,7 @@ use Rattle.runs.proofs.Course.{Begun, by_request, request_begun, step_begun}
 begun_levels : (g : Group) → Begun g → (all_at_most 4095 g.levels ≡ true) × (length g.levels ≡ 12)
 unfolding all_at_most
 begun_levels g (inl e) = rw e (refl, refl)
-begun_levels g (inr h) = (row_true 4095 g.n g.levels (checked-levels g h.passes), h.levels)
+begun_levels g (inr h) = (row_true 4095 g.n g.levels (checked_levels g h.passes), h.levels)
 
 request_pulses : (g : Group) (q : Request) → Begun g → Begun (step_by g q).value.group → (step_by g q).value.pulses ≤ 49140
 request_pulses g Bad b n = omega arith

@@ -10,12 +10,12 @@ use Rattle.order.specs.declared.Order.{Order}
 use Rattle.order.specs.declared.Refusal.TheVariants.{NoOrder}
 use Rattle.order.specs.Cells.{is_order}
 use Rattle.order.specs.Order.{listed, is_order_of, order_record}
-use Rattle.order.proofs.Refusals.{sized_holds, told-done}
-use Rattle.order.proofs.Check.{order-parts}
-use Rattle.order.proofs.Records.{record-back}
+use Rattle.order.proofs.Refusals.{sized_holds, told_done}
+use Rattle.order.proofs.Check.{order_parts}
+use Rattle.order.proofs.Records.{record_back}
 use Rattle.group.specs.declared.Group.{Group}
 use Rattle.group.specs.Record.{programmed, IsGroup}
-use Rattle.group.proofs.Checks.{checked-size}
+use Rattle.group.proofs.Checks.{checked_size}
 use Rattle.push_up.specs.PushUp.{singles}
 use Rattle.push_up.specs.WriteAnswer.{raised, pushed, write_of}
 use Rattle.push_up.proofs.Orders.{order_target}
@@ -34,9 +34,9 @@ unfolding sense_of pushed
 write_sensed g o h w e =
     let t = write_accepted g o e in
     let after : IsGroup (programmed true g (raised g (singles (listed o)))) = rw t.3 at (write_group g o h) in
-    let parts = (order-parts g.n o t.1).1 in
+    let parts = (order_parts g.n o t.1).1 in
     let n = parts.long in
-    let size = checked-size g h.passes in
+    let size = checked_size g h.passes in
     let back = raised_sensed g (listed o) h parts.order in
-    let same : order_record (listed o) ≡ o = record-back o (sized_holds o.len (is_order_of o.len o) NoOrder (omega arith) (omega arith) (ap (λ (k : ℕ). is_order_of k o) n ∙ t.1)) w in
-    rw t.3 (sym (told-done _ _ _ after.passes) ∙ ap (λ (x : Order). record { number = 0; value = x }) (ap order_record back ∙ same))
+    let same : order_record (listed o) ≡ o = record_back o (sized_holds o.len (is_order_of o.len o) NoOrder (omega arith) (omega arith) (ap (λ (k : ℕ). is_order_of k o) n ∙ t.1)) w in
+    rw t.3 (sym (told_done _ _ _ after.passes) ∙ ap (λ (x : Order). record { number = 0; value = x }) (ap order_record back ∙ same))

@@ -25,11 +25,11 @@ use Rattle.push_up.specs.Steps.{push_up_to}
 use Rattle.push_up.proofs.Minimal.{Each, OffAll, Apart, apart_wider}
 use Rattle.push_up.proofs.Orders.{order_cells}
 use Rattle.push_up.proofs.Pushes.{cells_above, few_pushes}
-use Rattle.push_up.proofs.OneMore.{rank_opened, cell-up, cells_on, bounded}
+use Rattle.push_up.proofs.OneMore.{rank_opened, cell_up_lem, cells_on, bounded}
 use Rattle.sharing.specs.declared.Ranked.{Ranked}
-use Rattle.sharing.specs.Shared.{sizes_of, each_filled, is_sizes, is_listed, by_number, ranks_of}
+use Rattle.sharing.specs.Shared.{sizes_of, each_filled, is_sizes, is_listed, by_number_lem, ranks_of}
 use Rattle.sharing.specs.Steps.{is_place, part, Flags, rank_up, PushesFit}
-use Rattle.sharing.proofs.Targets.{sizes_true, number_none, number_in, number-out, number_length, listed_or_not, apart-to, ranks-apart, ranks-above}
+use Rattle.sharing.proofs.Targets.{sizes_true, number_none, number_in, number_out, number_length, listed_or_not, apart_to, ranks_apart, ranks_above}
 
 -- ---- the places for rank sizes
 
@@ -65,11 +65,11 @@ module _ (count m n i : ℕ) (xs : List ℕ) (inside : i < length xs) where
       rw (t.1, drop_up xs i inside, e, f) (left_unused m n here (drop (i + 1) xs)))
       (lt_cases i count)
 
-  pub left-next : is_place (ltb i count) here ≡ true → sizes_left (count - (i + 1)) (m + here) n (drop (i + 1) xs) ≡ sizes_left (count - i) m n (drop i xs)
-  left-next e = sym (left_step ∙ rw e)
+  pub left_next : is_place (ltb i count) here ≡ true → sizes_left (count - (i + 1)) (m + here) n (drop (i + 1) xs) ≡ sizes_left (count - i) m n (drop i xs)
+  left_next e = sym (left_step ∙ rw e)
 
-  pub left-stop : is_place (ltb i count) here ≡ false → sizes_left (count - i) m n (drop i xs) ≡ false
-  left-stop e = left_step ∙ rw e
+  pub left_stop : is_place (ltb i count) here ≡ false → sizes_left (count - i) m n (drop i xs) ≡ false
+  left_stop e = left_step ∙ rw e
 
 -- past the last place
 pub left_end : (k m n i : ℕ) (xs : List ℕ) → length xs ≤ i → sizes_left k m n (drop i xs) ≡ eqb m n
@@ -116,8 +116,8 @@ pub record Above (n : ℕ) (r : List ℕ) (rs : List (List ℕ)) (old : List ℕ
   pub low : (i : ℕ) → get_or old i 0 ≤ 4095
   pub ranks : length rs < 12
   pub cells : cells_on rs + length r ≤ 12
-  pub apart : (c : ℕ) → c ≤ n → Apart 12 (by_number c r ∷ rs)
-  pub few : (c : ℕ) → is_listed (suc c) r ≡ true → cells_above (by_number c r ∷ rs) < 11
+  pub apart : (c : ℕ) → c ≤ n → Apart 12 (by_number_lem c r ∷ rs)
+  pub few : (c : ℕ) → is_listed (suc c) r ≡ true → cells_above (by_number_lem c r ∷ rs) < 11
 
 module _ {n : ℕ} {r : List ℕ} {rs : List (List ℕ)} {old : List ℕ} (a : Above n r rs old) (on : List ℕ) (marks : Flags on r) where
   abbrev below : PushUp
@@ -129,30 +129,30 @@ module _ {n : ℕ} {r : List ℕ} {rs : List (List ℕ)} {old : List ℕ} (a : A
   unmarked : (c : ℕ) → is_listed (suc c) r ≡ false → get_or on c 0 ≡ 0
   unmarked c e = marks c ∙ ap tally e
 
-  short : (c : ℕ) → is_listed (suc c) r ≡ true → length (pushes 1 (by_number c r ∷ rs) old) < 11
-  short c e = omega (arith, few_pushes 1 old (by_number c r ∷ rs), a.few c e)
+  short : (c : ℕ) → is_listed (suc c) r ≡ true → length (pushes 1 (by_number_lem c r ∷ rs) old) < 11
+  short c e = omega (arith, few_pushes 1 old (by_number_lem c r ∷ rs), a.few c e)
 
-  off : (c : ℕ) → suc c ≤ n → is_listed (suc c) r ≡ true → OffAll (suc c) (by_number c r ∷ rs)
+  off : (c : ℕ) → suc c ≤ n → is_listed (suc c) r ≡ true → OffAll (suc c) (by_number_lem c r ∷ rs)
   unfolding Apart
   off c l e = (rw (number_in c r e) at (a.apart (suc c) l)).0.0.1
 
-  pub rank_up : (c : ℕ) → c ≤ n → rank_up c on old below ≡ push_up_to 1 (by_number c r ∷ rs) old
+  pub rank_up : (c : ℕ) → c ≤ n → rank_up c on old below ≡ push_up_to 1 (by_number_lem c r ∷ rs) old
   unfolding rank_up push_up_to
   rank_up zero l = rw (number_none r) (sym (rank_opened 1 rs old))
   rank_up (suc c) l =
       ⊎_elim
       (λ e.
       rw (marked c e, rank_up c (omega arith), number_in c r e, ← level_next old c)
-      (cell-up 1 (record { 0 = suc c }) (by_number c r) rs old (omega (arith, a.twelve, a.small)) (off c l e) (short c e)))
-      (λ e. rw (unmarked c e, number-out c r e) (rank_up c (omega arith)))
+      (cell_up_lem 1 (record { 0 = suc c }) (by_number_lem c r) rs old (omega (arith, a.twelve, a.small)) (off c l e) (short c e)))
+      (λ e. rw (unmarked c e, number_out c r e) (rank_up c (omega arith)))
       (listed_or_not (suc c) r)
 
-  pub rank-fits : PushesFit n on old below
+  pub rank_fits : PushesFit n on old below
   unfolding push_up_to
-  rank-fits c l e =
+  rank_fits c l e =
       let listed : is_listed (suc c) r ≡ true = ⊎_elim (λ t. t) (λ t. absurd (omega (arith, unmarked c t))) (listed_or_not (suc c) r) in
       rw (rank_up c (omega arith))
-      ((bounded 1 (omega arith) old a.low (by_number c r ∷ rs) (omega (arith, a.ranks)) (omega (arith, a.cells, number_length c r))).pulses, short c listed)
+      ((bounded 1 (omega arith) old a.low (by_number_lem c r ∷ rs) (omega (arith, a.ranks)) (omega (arith, a.cells, number_length c r))).pulses, short c listed)
 
 -- ---- the ranks, from the lowest
 
@@ -178,12 +178,12 @@ ranks_cells n [] xs = omega arith
 ranks_cells n (s ∷ ss) xs = omega (arith, ranks_cells n ss (drop s xs), number_length n (take s xs), length-take s xs, length-drop s xs)
 
 above_few : (n c size : ℕ) (ts ys : List ℕ) → Each (λ s. 1 ≤ s) ts → length ys ≡ size + sum ts → length ys ≤ 12 → is_listed (suc c) (take size ys) ≡ true
-    → cells_above (by_number c (take size ys) ∷ ranks_of n ts (drop size ys)) < 11
+    → cells_above (by_number_lem c (take size ys) ∷ ranks_of n ts (drop size ys)) < 11
 unfolding ranks_of
 above_few n c size [] ys p e l q = omega arith
 above_few n c size (t ∷ ts) ys p e l q =
-    let rest = ranks-above n t ts (drop size ys) p (omega (arith, length-drop size ys, e)) in
-    let here : length (by_number (suc c) (take size ys)) ≡ suc (length (by_number c (take size ys))) = ap length (number_in c (take size ys) q) in
+    let rest = ranks_above n t ts (drop size ys) p (omega (arith, length-drop size ys, e)) in
+    let here : length (by_number_lem (suc c) (take size ys)) ≡ suc (length (by_number_lem c (take size ys))) = ap length (number_in c (take size ys) q) in
     omega (arith, rest, here, number_length (suc c) (take size ys), length-take size ys, length-drop size ys, e, l)
 
 -- a target of n cells, with rank sizes ss and cells xs, and the old levels
@@ -198,17 +198,17 @@ pub record Base (n : ℕ) (ss xs old : List ℕ) : Type 0 where
   pub low : (i : ℕ) → get_or old i 0 ≤ 4095
 
 module _ (n : ℕ) (t : Ranked) (xs old : List ℕ) (e : is_sizes n t ≡ true) (w : length t.sizes ≡ 12) where
-  pub sizes-length : length (sizes_of t) ≡ t.count
-  sizes-length = length-take-le t.count t.sizes (omega (arith, (sizes_true n t e).few))
+  pub sizes_length : length (sizes_of t) ≡ t.count
+  sizes_length = length-take-le t.count t.sizes (omega (arith, (sizes_true n t e).few))
 
-  pub base-of : is_order n xs ≡ true → n ≤ 12 → length old ≡ 12 → all_at_most 4095 old ≡ true → Base n (sizes_of t) xs old
-  base-of o l v m =
+  pub base_of : is_order n xs ≡ true → n ≤ 12 → length old ≡ 12 → all_at_most 4095 old ≡ true → Base n (sizes_of t) xs old
+  base_of o l v m =
       let s = sizes_true n t e in
       let order = order_true n xs o in
       record {
         small = l;
         size = order.size;
-        few = omega (arith, sizes-length, s.few);
+        few = omega (arith, sizes_length, s.few);
         filled = s.filled;
         adds = s.adds;
         once = (order_cells n xs order).once;
@@ -244,21 +244,21 @@ module _ {n : ℕ} {ss xs old : List ℕ} {p : PushUp} {k end : ℕ} (r : Raised
   abbrev lower : List (List ℕ)
   lower = ranks_of n (drop k ss) (drop end xs)
 
-  next-sizes : drop (k - 1) ss ≡ size ∷ drop k ss
-  next-sizes = drop_down ss k more r.left
+  next_sizes : drop (k - 1) ss ≡ size ∷ drop k ss
+  next_sizes = drop_down ss k more r.left
 
   -- its cells are listed before those that are done
   parts : end ≡ sum (take (k - 1) ss) + size
   unfolding sum
   parts =
-      let here : sum (drop (k - 1) ss) ≡ size + sum (drop k ss) = ap sum next-sizes in
+      let here : sum (drop (k - 1) ss) ≡ size + sum (drop k ss) = ap sum next_sizes in
       omega (arith, r.at, sum_split k ss, sum_split (k - 1) ss, here)
 
   pub size_fits : size ≤ end
   size_fits = omega (arith, parts)
 
-  pub end-small : end ≤ n
-  end-small = omega (arith, r.at, sum_split k ss, b.adds)
+  pub end_small : end ≤ n
+  end_small = omega (arith, r.at, sum_split k ss, b.adds)
 
   once : (d : ℕ) → count d (drop first xs) ≤ 1
   once d = omega (arith, count-drop d first xs, b.once d)
@@ -271,8 +271,8 @@ module _ {n : ℕ} {ss xs old : List ℕ} {p : PushUp} {k end : ℕ} (r : Raised
       let back : first + size ≡ end = omega (arith, size_fits) in
       drop-drop size first xs ∙ ap (λ (i : ℕ). drop i xs) back
 
-  left-cells : length (drop first xs) ≡ size + sum (drop k ss)
-  left-cells = omega (arith, length-drop first xs, b.size, b.adds, r.at, sum_split k ss, size_fits)
+  left_cells : length (drop first xs) ≡ size + sum (drop k ss)
+  left_cells = omega (arith, length-drop first xs, b.size, b.adds, r.at, sum_split k ss, size_fits)
 
   pub next_above : Above n (part first end xs) lower old
   next_above =
@@ -281,32 +281,32 @@ module _ {n : ℕ} {ss xs old : List ℕ} {p : PushUp} {k end : ℕ} (r : Raised
         twelve = b.twelve;
         low = b.low;
         ranks = omega (arith, ranks_length n (drop k ss) (drop end xs), length-drop k ss, b.few, more);
-        cells = omega (arith, ranks_cells n (drop k ss) (drop end xs), length-drop end xs, length-take (end - first) (drop first xs), as_many, size_fits, end-small, b.size, b.small);
+        cells = omega (arith, ranks_cells n (drop k ss) (drop end xs), length-drop end xs, length-take (end - first) (drop first xs), as_many, size_fits, end_small, b.size, b.small);
         apart = λ c l.
-            let a = apart-to n c size (drop k ss) (drop first xs) l once (ranks-apart n (drop k ss) _ (λ d. omega (arith, count-drop d size (drop first xs), once d))) in
+            let a = apart_to n c size (drop k ss) (drop first xs) l once (ranks_apart n (drop k ss) _ (λ d. omega (arith, count-drop d size (drop first xs), once d))) in
             rw (as_many, ← after) (apart_wider _ b.small a);
         few = λ c q.
             rw (as_many, ← after)
-            (above_few n c size (drop k ss) (drop first xs) (each_drop (λ s. 1 ≤ s) k ss b.filled) left-cells (omega (arith, length-drop first xs, b.size, b.small)) (rw as_many at q));
+            (above_few n c size (drop k ss) (drop first xs) (each_drop (λ s. 1 ≤ s) k ss b.filled) left_cells (omega (arith, length-drop first xs, b.size, b.small)) (rw as_many at q));
       }
 
-  pub next-floor : p.floor ≤ 5000
-  next-floor =
+  pub next_floor : p.floor ≤ 5000
+  next_floor =
       let a = next_above in
       rw r.sofar (bounded 1 (omega arith) old b.low lower (omega (arith, a.ranks)) (omega (arith, a.cells))).floor
 
   module _ (on : List ℕ) (marks : Flags on (part first end xs)) where
     pub next_fits : PushesFit n on old p
-    next_fits = rw r.sofar (rank-fits next_above on marks)
+    next_fits = rw r.sofar (rank_fits next_above on marks)
 
-    pub raised-more : {q : PushUp} → q ≡ rank_up n on old p → RaisedFrom n ss xs old q (k - 1) first
+    pub raised_more : {q : PushUp} → q ≡ rank_up n on old p → RaisedFrom n ss xs old q (k - 1) first
     unfolding ranks_of
-    raised-more e =
+    raised_more e =
         record {
           base = b;
           left = omega (arith, r.left);
           at = omega (arith, parts);
-          sofar = e ∙ rw (r.sofar, next-sizes, after) (rw as_many at (rank_up next_above on marks n (omega arith)));
+          sofar = e ∙ rw (r.sofar, next_sizes, after) (rw as_many at (rank_up next_above on marks n (omega arith)));
         }
 
 pub raised_all : {n : ℕ} {ss xs old : List ℕ} {p : PushUp} {k end : ℕ} → RaisedFrom n ss xs old p k end → k ≤ 0 → p ≡ push_up_to 1 (ranks_of n ss xs) old

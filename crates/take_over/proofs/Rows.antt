@@ -65,12 +65,12 @@ module _ {m : ℕ} {xs places : List ℕ} {over i : ℕ} (p : Placed m xs places
         let e : i ≡ length xs = omega (arith, p.left) in
         p.copied ∙ rw (e, take_all (length xs) xs (omega arith), drop-replicate (length xs) 12 0)
 
-    placed-low : eqb over 0 ≡ all_at_most m xs
+    placed_low : eqb over 0 ≡ all_at_most m xs
     unfolding all_at_most
-    placed-low = zero_test over ∙ sym (and-true (leb over 0)) ∙ rw (drop_of_length-le xs {i = i} end) at p.gathered
+    placed_low = zero_test over ∙ sym (and-true (leb over 0)) ∙ rw (drop_of_length-le xs {i = i} end) at p.gathered
 
     pub placed_row : (n : ℕ) → length xs ≡ n → RowOf m n xs (eqb over 0) places
-    placed_row n e = (placed-low ∙ sym (same_length m n xs e), λ t. placed_all)
+    placed_row n e = (placed_low ∙ sym (same_length m n xs e), λ t. placed_all)
 
 -- ---- rows
 
@@ -80,11 +80,11 @@ module _ (m n : ℕ) (xs : List ℕ) (e : is_given m n xs ≡ true) where
   unfolding is_given
   given = let t = both (eqb (length xs) n) (all_at_most m xs) e in (eqb-true (length xs) n t.0, t.1)
 
-  pub given-row : is_row m n (in_places xs) ≡ true
-  given-row = padded_row m n (12 - length xs) xs given.1 given.0
+  pub given_row : is_row m n (in_places xs) ≡ true
+  given_row = padded_row m n (12 - length xs) xs given.1 given.0
 
-  pub given-twelve : n ≤ 12 → length (in_places xs) ≡ 12
-  given-twelve l =
+  pub given_twelve : n ≤ 12 → length (in_places xs) ≡ 12
+  given_twelve l =
       let zeros : List ℕ = replicate (12 - length xs) 0 in
       length-append xs zeros ∙ omega (arith, given.0, length-replicate {A = ℕ} (12 - length xs) 0)
 
@@ -93,8 +93,8 @@ module _ (m n : ℕ) (xs : List ℕ) (small : n ≤ 12) (twelve : length xs ≡ 
   long : length (take n xs) ≡ n
   long = length-take-le n xs (omega (arith, twelve))
 
-  pub row-given : is_given m n (take n xs) ≡ true
-  row-given = same_length m n (take n xs) long ∙ all_take m n xs (row_true m n xs e)
+  pub row_given : is_given m n (take n xs) ≡ true
+  row_given = same_length m n (take n xs) long ∙ all_take m n xs (row_true m n xs e)
 
   pub row_back : in_places (take n xs) ≡ xs
   row_back = rw (long, ← twelve, ← row_zeros m n xs e) (take-append-drop n xs)

@@ -11,7 +11,7 @@ use borrow.Author.Tests.{leb-true}
 use Rattle.order.specs.declared.Refusal.{Refusal}
 use Rattle.order.specs.declared.Refusal.TheVariants.{RoomShort}
 use Rattle.order.specs.Refusals.{Told, refusal_number, number_of, if_done, answer}
-use Rattle.order.proofs.Refusals.{told-done, told-refused, refused_zeros, refused-first, later-decide, check-fails, check-holds, all_hold, check_held, all_held}
+use Rattle.order.proofs.Refusals.{told_done, told_refused, refused_zeros, refused_first, later_decide, check_fails, check_holds, all_hold, check_held, all_held}
 use Rattle.cell_run.specs.Run.{limit_checks}
 use Rattle.cell_run.proofs.Checks.{limits_held}
 use Rattle.window.specs.Ring.{window_numbers}
@@ -29,31 +29,31 @@ module _ (of_run : List (Bool × Refusal)) (ls : List ℕ) (width step : ℕ) (n
       (a ≡ windows_of of_run ls width step numbers scratch)
       × ((ns ≡ numbers_after of_run ls width step numbers scratch) × (ss ≡ scratch_after of_run ls width step numbers scratch))
 
-  refused-by : (f : Refusal) → number_of (window_checks of_run ls width step numbers scratch) ≡ refusal_number f
+  refused_by : (f : Refusal) → number_of (window_checks of_run ls width step numbers scratch) ≡ refusal_number f
       → Answered (record { number = refusal_number f; value = 0 }) numbers scratch
   unfolding windows_of numbers_after scratch_after
-  refused-by f e =
-      (told-refused _ _ _ f e, (refused_keeps f _ numbers e, refused_keeps f _ scratch e))
+  refused_by f e =
+      (told_refused _ _ _ f e, (refused_keeps f _ numbers e, refused_keeps f _ scratch e))
 
   -- the run that is handed in is refused
-  pub run-refused : (f : Refusal) → number_of of_run ≡ refusal_number f → Answered (record { number = refusal_number f; value = 0 }) numbers scratch
-  run-refused f e = refused-by f (refused-first _ of_run f e)
+  pub run_refused : (f : Refusal) → number_of of_run ≡ refusal_number f → Answered (record { number = refusal_number f; value = 0 }) numbers scratch
+  run_refused f e = refused_by f (refused_first _ of_run f e)
 
   -- it passes, and the later checks decide
   module _ (d : number_of of_run ≡ 0) where
     same : number_of (window_checks of_run ls width step numbers scratch) ≡ number_of (window_checks [] ls width step numbers scratch)
-    same = later-decide (window_checks [] ls width step numbers scratch) of_run d
+    same = later_decide (window_checks [] ls width step numbers scratch) of_run d
 
-    pub run-passed : {a : Told ℕ} {ns ss : List ℕ}
+    pub run_passed : {a : Told ℕ} {ns ss : List ℕ}
         → (a ≡ windows_of [] ls width step numbers scratch) × ((ns ≡ numbers_after [] ls width step numbers scratch) × (ss ≡ scratch_after [] ls width step numbers scratch))
         → Answered a ns ss
     unfolding windows_of numbers_after scratch_after answer
-    run-passed t = (rw same t.0, (rw same t.1.0, rw same t.1.1))
+    run_passed t = (rw same t.0, (rw same t.1.0, rw same t.1.1))
 
-    pub run-passing : {a : Told ℕ} {ns ss : List ℕ} → Answered a ns ss
+    pub run_passing : {a : Told ℕ} {ns ss : List ℕ} → Answered a ns ss
         → (a ≡ windows_of [] ls width step numbers scratch) × ((ns ≡ numbers_after [] ls width step numbers scratch) × (ss ≡ scratch_after [] ls width step numbers scratch))
     unfolding windows_of numbers_after scratch_after answer
-    run-passing t = (rw same at t.0, (rw same at t.1.0, rw same at t.1.1))
+    run_passing t = (rw same at t.0, (rw same at t.1.0, rw same at t.1.1))
 
 pub numberable : (ls : List ℕ) (width step : ℕ) (numbers : List ℕ) → number_of (call_checks (length ls) width step (length numbers)) ≡ 0 → Numberable ls width step numbers
 numberable ls width step numbers d =
@@ -74,19 +74,19 @@ module _ (ls : List ℕ) (width step : ℕ) (numbers scratch : List ℕ) where
   room = has_room (scratch_levels ls width step) scratch
 
   -- the checks by their numbers, and then the scratch, are those of the call
-  by-numbers : call_checks (length ls) width step (length numbers) ++ (room, RoomShort) ∷ [] ≡ window_checks [] ls width step numbers scratch
-  by-numbers = rw (numbers_length ls width step)
+  by_numbers : call_checks (length ls) width step (length numbers) ++ (room, RoomShort) ∷ [] ≡ window_checks [] ls width step numbers scratch
+  by_numbers = rw (numbers_length ls width step)
 
-  pub call-refused : (f : Refusal) → number_of (call_checks (length ls) width step (length numbers)) ≡ refusal_number f
+  pub call_refused : (f : Refusal) → number_of (call_checks (length ls) width step (length numbers)) ≡ refusal_number f
       → Answered [] ls width step numbers scratch (record { number = refusal_number f; value = 0 }) numbers scratch
-  call-refused f e =
-      refused-by [] ls width step numbers scratch f
-      (ap number_of (sym by-numbers) ∙ refused-first _ (call_checks (length ls) width step (length numbers)) f e)
+  call_refused f e =
+      refused_by [] ls width step numbers scratch f
+      (ap number_of (sym by_numbers) ∙ refused_first _ (call_checks (length ls) width step (length numbers)) f e)
 
   module _ (d : number_of (call_checks (length ls) width step (length numbers)) ≡ 0) where
     -- the scratch decides
     last : number_of (window_checks [] ls width step numbers scratch) ≡ number_of ((room, RoomShort) ∷ [])
-    last = ap number_of (sym by-numbers) ∙ later-decide _ (call_checks (length ls) width step (length numbers)) d
+    last = ap number_of (sym by_numbers) ∙ later_decide _ (call_checks (length ls) width step (length numbers)) d
 
     module _ {r : Bool} {ns ss : List ℕ} (t : (r ≡ room)
         × ((ns ≡ cond r (put_first (window_numbers ls width step) numbers) numbers) × (ss ≡ cond r (put_first (scratch_levels ls width step) scratch) scratch))) where
@@ -94,13 +94,13 @@ module _ (ls : List ℕ) (width step : ℕ) (numbers scratch : List ℕ) where
       unfilled e =
           let kept : ns ≡ numbers = t.1.0 ∙ ap (λ (b : Bool). cond b (put_first (window_numbers ls width step) numbers) numbers) e in
           let left : ss ≡ scratch = t.1.1 ∙ ap (λ (b : Bool). cond b (put_first (scratch_levels ls width step) scratch) scratch) e in
-          rw (kept, left) (refused-by [] ls width step numbers scratch RoomShort (last ∙ check-fails _ _ (sym t.0 ∙ e)))
+          rw (kept, left) (refused_by [] ls width step numbers scratch RoomShort (last ∙ check_fails _ _ (sym t.0 ∙ e)))
 
       -- the windows are numbered
       pub filled : r ≡ true → Answered [] ls width step numbers scratch (record { number = 0; value = length ls / step }) ns ss
       unfolding windows_of numbers_after scratch_after
       filled e =
-          let pass : number_of (window_checks [] ls width step numbers scratch) ≡ 0 = last ∙ check-holds _ _ (sym t.0 ∙ e) ∙ all_hold in
+          let pass : number_of (window_checks [] ls width step numbers scratch) ≡ 0 = last ∙ check_holds _ _ (sym t.0 ∙ e) ∙ all_hold in
           let numbered : ns ≡ put_first (window_numbers ls width step) numbers = t.1.0 ∙ ap (λ (b : Bool). cond b (put_first (window_numbers ls width step) numbers) numbers) e in
           let put : ss ≡ put_first (scratch_levels ls width step) scratch = t.1.1 ∙ ap (λ (b : Bool). cond b (put_first (scratch_levels ls width step) scratch) scratch) e in
-          (rw (← numbers_length ls width step) (told-done _ _ _ pass), (rw (numbered, pass), rw (put, pass)))
+          (rw (← numbers_length ls width step) (told_done _ _ _ pass), (rw (numbered, pass), rw (put, pass)))

@@ -20,7 +20,7 @@ use Rattle.group.proofs.Levels.{level_next}
 use Rattle.sensing.specs.Sense.{stands_above, insert, sorted, sensed}
 use Rattle.sensing.specs.LevelCells.{Stands}
 use Rattle.push_up.proofs.Minimal.{Each}
-use Rattle.sensing.proofs.Sensed.{stands-above, stands-below, Sorted, each_count, sensed_sorted, sensed_is_order}
+use Rattle.sensing.proofs.Sensed.{stands_above_lem, stands_below, Sorted, each_count, sensed_sorted, sensed_is_order}
 use Rattle.window.specs.Ring.{window_order}
 use Rattle.window.specs.Steps.{stands_after}
 
@@ -43,11 +43,11 @@ after_one a b = tally-le (not (stands_above a b))
 
 under_stands : (ls : List ℕ) (d x : ℕ) → Stands ls d x → tally (ltb x d) ≡ tally (under ls d x)
 unfolding under
-under_stands ls d x s = ⊎_elim (λ t. rw (t.1, stands-below ls x d t.0 s)) (λ t. rw t.1) (lt_cases x d)
+under_stands ls d x s = ⊎_elim (λ t. rw (t.1, stands_below ls x d t.0 s)) (λ t. rw t.1) (lt_cases x d)
 
 under_none : (ls : List ℕ) (d x : ℕ) → Stands ls x d → tally (under ls d x) ≡ 0
 unfolding under
-under_none ls d x s = ⊎_elim (λ t. rw (t.1, stands-above ls x d t.0 s)) (λ t. rw t.1) (lt_cases x d)
+under_none ls d x s = ⊎_elim (λ t. rw (t.1, stands_above_lem ls x d t.0 s)) (λ t. rw t.1) (lt_cases x d)
 
 under_past : (ls : List ℕ) (d x : ℕ) → d ≤ x → tally (under ls d x) ≡ 0
 unfolding under
@@ -83,22 +83,22 @@ count_to_le test zero = omega arith
 count_to_le test (suc j) = omega (arith, count_to_le test j, tally-le (test (suc j)))
 
 module _ (test : ℕ → Bool) (ls : List ℕ) where
-  countIf-insert : (c : ℕ) (ds : List ℕ) → count_if test (insert stands_above ls c ds) ≡ tally (test c) + count_if test ds
+  countIf_insert : (c : ℕ) (ds : List ℕ) → count_if test (insert stands_above ls c ds) ≡ tally (test c) + count_if test ds
   unfolding insert
-  countIf-insert c [] = refl
-  countIf-insert c (d ∷ ds) = go (stands_above (level ls c) (level ls d)) (countIf-insert c ds)
+  countIf_insert c [] = refl
+  countIf_insert c (d ∷ ds) = go (stands_above (level ls c) (level ls d)) (countIf_insert c ds)
     where
       go : (b : Bool) → count_if test (insert stands_above ls c ds) ≡ tally (test c) + count_if test ds
           → count_if test (cond b (c ∷ d ∷ ds) (d ∷ insert stands_above ls c ds)) ≡ tally (test c) + (tally (test d) + count_if test ds)
       go true e = refl
       go false e = omega arith
 
-  sorted-count : (b k : ℕ) → count_if test (sorted stands_above ls (suc b) k) + count_to test b ≡ count_to test (b + k)
+  sorted_count : (b k : ℕ) → count_if test (sorted stands_above ls (suc b) k) + count_to test b ≡ count_to test (b + k)
   unfolding sorted count_to
-  sorted-count b zero = rw (add-zero b) (omega arith)
-  sorted-count b (suc k) =
+  sorted_count b zero = rw (add-zero b) (omega arith)
+  sorted_count b (suc k) =
       let e : b + suc k ≡ suc b + k = omega arith in
-      rw e (omega (arith, countIf-insert (suc b) (sorted stands_above ls (suc (suc b)) k), sorted-count (suc b) k))
+      rw e (omega (arith, countIf_insert (suc b) (sorted stands_above ls (suc (suc b)) k), sorted_count (suc b) k))
 
 count-one : (test : ℕ → Bool) (i : ℕ) → count_to test (i + 1) ≡ count_to test i + tally (test (suc i))
 unfolding count_to
@@ -118,7 +118,7 @@ coordinate_under n ls i l =
     let test = under ls (suc i) in
     let o = sensed_is_order n ls in
     let e : i + (n - i) ≡ n = omega arith in
-    let all : count_if test (sorted stands_above ls 1 n) + count_to test 0 ≡ count_to test (0 + n) = sorted-count test ls 0 n in
+    let all : count_if test (sorted stands_above ls 1 n) + count_to test 0 ≡ count_to test (0 + n) = sorted_count test ls 0 n in
     let f : 0 + n ≡ i + (n - i) = omega arith in
     after_under ls (suc i) (sorted stands_above ls 1 n) (sensed_sorted n ls) (omega (arith, order_count n (sensed n ls) o i l))
     ∙ omega (arith, all, count_to_le test 0, ap (count_to test) f, count_stop ls i (n - i))
@@ -136,15 +136,15 @@ unfolding count_to
 counting_none ls i e = record { reached = omega arith; first = refl; second = omega (arith, e, under_levels ls (i + 1) i (omega arith)) }
 
 module _ {ls : List ℕ} {i j here next : ℕ} (c : Counting ls i j here next) where
-  counted-low : (here ≤ j) × (next ≤ j + 1)
-  counted-low = (
+  counted_low : (here ≤ j) × (next ≤ j + 1)
+  counted_low = (
     omega (arith, c.first, count_to_le (under ls (suc i)) j),
     omega (arith, c.second, count_to_le (under ls (suc (i + 1))) j, tally-le (under ls (suc (i + 1)) (suc i))),
   )
 
   -- one more of each
-  pub counted-fits : (a b : ℕ) {u : ℕ} → u ≡ stands_after a b → (here + u ≤ i + 1) × (next + u ≤ i + 2)
-  counted-fits a b e = let low = counted-low in (omega (arith, low, c.reached, e, after_one a b), omega (arith, low, c.reached, e, after_one a b))
+  pub counted_fits : (a b : ℕ) {u : ℕ} → u ≡ stands_after a b → (here + u ≤ i + 1) × (next + u ≤ i + 2)
+  counted_fits a b e = let low = counted_low in (omega (arith, low, c.reached, e, after_one a b), omega (arith, low, c.reached, e, after_one a b))
 
   pub counting_more : {u v : ℕ} → j < i → u ≡ stands_after (get_or ls j 0) (get_or ls i 0) → v ≡ stands_after (get_or ls j 0) (get_or ls (i + 1) 0)
       → Counting ls i (j + 1) (here + u) (next + v)
@@ -156,8 +156,8 @@ module _ {ls : List ℕ} {i j here next : ℕ} (c : Counting ls i j here next) w
         second = rw (add-one j) (omega (arith, c.second, f, under_levels ls (i + 1) j (omega arith)));
       }
 
-  pub counting-done : i ≤ j → i + 1 < length ls → (here ≡ coordinate_of (window_order ls) i) × (next ≡ coordinate_of (window_order ls) (i + 1))
-  counting-done h l =
+  pub counting_done : i ≤ j → i + 1 < length ls → (here ≡ coordinate_of (window_order ls) i) × (next ≡ coordinate_of (window_order ls) (i + 1))
+  counting_done h l =
       let e : j ≡ i = omega (arith, c.reached) in
       let last : next ≡ count_to (under ls (suc (i + 1))) (i + 1) = omega (arith, c.second, ap (count_to (under ls (suc (i + 1)))) e, count-one (under ls (suc (i + 1))) i) in
       (c.first ∙ ap (count_to (under ls (suc i))) e ∙ sym (coordinate_under (length ls) ls i (omega arith)), last ∙ sym (coordinate_under (length ls) ls (i + 1) l))

@@ -9,7 +9,7 @@ use native.Mathlib.Omega.{arith}
 use lib.ListN.{length, get_or, set, take, drop, length-append, length-drop}
 use lib.Seq.{take_at, drop_at, drop-drop, ext_get_or, get_or-take, get_or-drop, length-take-le, take_all}
 use Rattle.order.specs.Cells.{tabulate}
-use Rattle.order.proofs.Tabulate.{length-tabulate, get_d_tabulate}
+use Rattle.order.proofs.Tabulate.{length_tabulate, get_d_tabulate}
 use Rattle.window.specs.Ring.{window_number, window_at, number_at, window_numbers}
 use Rattle.window.specs.Calls.{scratch_levels, put_first}
 use Rattle.window.specs.Steps.{Numberable, KeptPast}
@@ -19,11 +19,11 @@ use Rattle.window.proofs.Placing.{grown, grown_none, grown_length, grown_more, g
 
 pub window_length : (ring : List ℕ) (width p : ℕ) → length (window_at ring width p) ≡ width
 unfolding window_at
-window_length ring width p = length-tabulate width (level_on ring p)
+window_length ring width p = length_tabulate width (level_on ring p)
 
 pub numbers_length : (ring : List ℕ) (width step : ℕ) → length (window_numbers ring width step) ≡ length ring / step
 unfolding window_numbers
-numbers_length ring width step = length-tabulate (length ring / step) (number_at ring width step)
+numbers_length ring width step = length_tabulate (length ring / step) (number_at ring width step)
 
 -- a window that does not go round the end
 pub window_inside : (ring : List ℕ) (width p : ℕ) → p + width ≤ length ring → window_at ring width p ≡ take (p + width - p) (drop p ring)
@@ -48,16 +48,16 @@ module _ (ring : List ℕ) (width p : ℕ) (old : List ℕ) {new : List ℕ} (e 
   pub placed_first : take width new ≡ window_at ring width p
   placed_first = rw e (take_at (window_at ring width p) _ width (window_length ring width p))
 
-  pub placed-later : drop width new ≡ drop width old
-  placed-later = rw e (drop_at (window_at ring width p) _ width (window_length ring width p) ∙ rw (window_length ring width p))
+  pub placed_later : drop width new ≡ drop width old
+  placed_later = rw e (drop_at (window_at ring width p) _ width (window_length ring width p) ∙ rw (window_length ring width p))
 
-  pub placed-length : width ≤ length old → length new ≡ length old
-  placed-length l =
+  pub placed_length : width ≤ length old → length new ≡ length old
+  placed_length l =
       let w = window_length ring width p in
       rw e (omega (arith, length-append (window_at ring width p) (drop (length (window_at ring width p)) old), length-drop (length (window_at ring width p)) old, w))
 
-  pub placed-kept : width ≤ length old → KeptPast width old new
-  placed-kept l = record { later = placed-later; long = placed-length l }
+  pub placed_kept : width ≤ length old → KeptPast width old new
+  placed_kept l = record { later = placed_later; long = placed_length l }
 
 -- ---- the loop
 
@@ -76,16 +76,16 @@ begin {ring} {width} {step} {numbers} {scratch} n l =
     record { needs = n; room = l; turn = omega arith; list = grown_none (number_at ring width step) numbers; at = sym (zero-mul step); kept = refl; long = refl }
 
 module _ {ring : List ℕ} {width step : ℕ} {numbers₀ scratch₀ numbers scratch : List ℕ} {start k : ℕ} (s : Numbering ring width step numbers₀ scratch₀ numbers scratch start k) where
-  pub numbers-long : length numbers ≡ length numbers₀
-  numbers-long = ap length s.list ∙ grown_length (number_at ring width step) k numbers₀ (omega (arith, s.turn, s.needs.count))
+  pub numbers_long : length numbers ≡ length numbers₀
+  numbers_long = ap length s.list ∙ grown_length (number_at ring width step) k numbers₀ (omega (arith, s.turn, s.needs.count))
 
   pub has_room : width ≤ length scratch
   has_room = omega (arith, s.long, s.needs.inside, s.room)
 
   module _ (l : k < length ring / step) where
     -- a window starts on the ring, and the next start is not past its end
-    pub start-inside : start + step ≤ length ring
-    start-inside = omega (arith, s.at, suc-mul k step, mul-le-mul_right step l, div-mul-le_self (length ring) step)
+    pub start_inside : start + step ≤ length ring
+    start_inside = omega (arith, s.at, suc-mul k step, mul-le-mul_right step l, div-mul-le_self (length ring) step)
 
     pub next : {new : List ℕ} {number : ℕ} → number ≡ window_number (window_at ring width start) → KeptPast width scratch new
         → Numbering ring width step numbers₀ scratch₀ (set numbers k number) new (start + step) (k + 1)
@@ -101,22 +101,22 @@ module _ {ring : List ℕ} {width step : ℕ} {numbers₀ scratch₀ numbers scr
           long = e.long ∙ s.long;
         }
 
-  pub numbers-done : length ring / step ≤ k → numbers ≡ put_first (window_numbers ring width step) numbers₀
+  pub numbers_done : length ring / step ≤ k → numbers ≡ put_first (window_numbers ring width step) numbers₀
   unfolding window_numbers
-  numbers-done l =
+  numbers_done l =
       let e : k ≡ length ring / step = omega (arith, s.turn) in
       s.list ∙ grown_whole (number_at ring width step) k numbers₀ ∙ ap (λ (n : ℕ). put_first (tabulate n (number_at ring width step)) numbers₀) e
 
   -- the whole ring put over the last window
-  pub scratch-done : {new : List ℕ} → new ≡ put_first ring scratch → new ≡ put_first (scratch_levels ring width step) scratch₀
+  pub scratch_done : {new : List ℕ} → new ≡ put_first ring scratch → new ≡ put_first (scratch_levels ring width step) scratch₀
   unfolding scratch_levels
-  scratch-done {new} e =
+  scratch_done {new} e =
       let past : width + (length ring - width) ≡ length ring = omega (arith, s.needs.inside) in
       let later : drop (length ring) scratch ≡ drop (length ring) scratch₀ =
       ap (λ (n : ℕ). drop n scratch) (sym past) ∙ sym (drop-drop (length ring - width) width scratch) ∙ ap (drop (length ring - width)) s.kept
       ∙ drop-drop (length ring - width) width scratch₀ ∙ ap (λ (n : ℕ). drop n scratch₀) past in
       e ∙ ap (λ (t : List ℕ). ring ++ t) later
 
-  pub scratch-long : {new : List ℕ} → new ≡ put_first ring scratch → length new ≡ length scratch₀
-  scratch-long {new} e =
+  pub scratch_long : {new : List ℕ} → new ≡ put_first ring scratch → length new ≡ length scratch₀
+  scratch_long {new} e =
       rw e (omega (arith, length-append ring (drop (length ring) scratch), length-drop (length ring) scratch, s.long, s.room))

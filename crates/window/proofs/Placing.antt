@@ -9,14 +9,14 @@ use native.Mathlib.Omega.{arith}
 use lib.ListN.{length, get_or, set, drop, length-append, length-drop}
 use lib.Seq.{drop-cons, set_at, append_snoc, ext_get_or}
 use Rattle.order.specs.Cells.{tabulate}
-use Rattle.order.proofs.Tabulate.{length-tabulate, get_d_tabulate, tabulate-add}
+use Rattle.order.proofs.Tabulate.{length_tabulate, get_d_tabulate, tabulate_add}
 use Rattle.window.specs.Ring.{level_round, window_at}
 use Rattle.window.specs.Calls.{put_first}
 
 -- ---- a list that grows at its front
 
 tabulate_more : (n : ℕ) (f : ℕ → ℕ) → tabulate (n + 1) f ≡ tabulate n f ++ (f n ∷ [])
-tabulate_more n f = tabulate-add n 1 f ∙ ap (λ (j : ℕ). tabulate n f ++ (f j ∷ [])) (add-zero n)
+tabulate_more n f = tabulate_add n 1 f ∙ ap (λ (j : ℕ). tabulate n f ++ (f j ∷ [])) (add-zero n)
 
 -- the first k places hold f, the later ones are as they were
 unfoldable pub grown : (ℕ → ℕ) → ℕ → List ℕ → List ℕ
@@ -28,19 +28,19 @@ grown_none f old = refl
 
 pub grown_length : (f : ℕ → ℕ) (k : ℕ) (old : List ℕ) → k ≤ length old → length (grown f k old) ≡ length old
 unfolding grown
-grown_length f k old l = omega (arith, length-append (tabulate k f) (drop k old), length-tabulate k f, length-drop k old)
+grown_length f k old l = omega (arith, length-append (tabulate k f) (drop k old), length_tabulate k f, length-drop k old)
 
 pub grown_more : (f : ℕ → ℕ) (k : ℕ) (old : List ℕ) → k < length old → set (grown f k old) k (f k) ≡ grown f (k + 1) old
 unfolding grown
 grown_more f k old l =
     ap (λ (d : List ℕ). set (tabulate k f ++ d) k (f k)) (drop-cons old k 0 l)
-    ∙ set_at (tabulate k f) (get_or old k 0) (drop (suc k) old) (f k) k (length-tabulate k f)
+    ∙ set_at (tabulate k f) (get_or old k 0) (drop (suc k) old) (f k) k (length_tabulate k f)
     ∙ sym (append_snoc (tabulate k f) (f k) (drop (suc k) old))
     ∙ ap₂ ◌++◌ (sym (tabulate_more k f)) (ap (λ (n : ℕ). drop n old) (sym (add-one k)))
 
 pub grown_whole : (f : ℕ → ℕ) (k : ℕ) (old : List ℕ) → grown f k old ≡ put_first (tabulate k f) old
 unfolding grown
-grown_whole f k old = rw (length-tabulate k f)
+grown_whole f k old = rw (length_tabulate k f)
 
 -- ---- all levels, one after the other
 
@@ -50,8 +50,8 @@ level_in ring j = get_or ring j 0
 pub levels_whole : (ring old : List ℕ) (j : ℕ) → j ≡ length ring → grown (level_in ring) j old ≡ put_first ring old
 levels_whole ring old j e =
     let all : tabulate (length ring) (level_in ring) ≡ ring =
-    ext_get_or 0 (tabulate (length ring) (level_in ring)) ring (length-tabulate (length ring) (level_in ring))
-    (λ i l. get_d_tabulate (length ring) (level_in ring) i 0 (omega (arith, length-tabulate (length ring) (level_in ring)))) in
+    ext_get_or 0 (tabulate (length ring) (level_in ring)) ring (length_tabulate (length ring) (level_in ring))
+    (λ i l. get_d_tabulate (length ring) (level_in ring) i 0 (omega (arith, length_tabulate (length ring) (level_in ring)))) in
     rw e (grown_whole (level_in ring) (length ring) old ∙ ap (λ (t : List ℕ). put_first t old) all)
 
 -- ---- round the ring
@@ -71,14 +71,14 @@ placing_none ring p old l =
     record { first = omega arith; room = omega arith; list = grown_none (level_on ring p) old; place = rw (add-zero p) (sym (mod-eq_of_lt l)) }
 
 module _ {ring : List ℕ} {p : ℕ} {old out : List ℕ} {at j : ℕ} (s : Placing ring p old out at j) where
-  pub placing-at : at < length ring
-  placing-at = rw s.place (mod-lt (p + j) s.first)
+  pub placing_at : at < length ring
+  placing_at = rw s.place (mod-lt (p + j) s.first)
 
-  pub placing-length : length out ≡ length old
-  placing-length = ap length s.list ∙ grown_length (level_on ring p) j old s.room
+  pub placing_length : length out ≡ length old
+  placing_length = ap length s.list ∙ grown_length (level_on ring p) j old s.room
 
-  pub placing-more : {next : ℕ} → j < length old → next ≡ (at + 1) % length ring → Placing ring p old (set out j (get_or ring at 0)) next (j + 1)
-  placing-more {next} l e =
+  pub placing_more : {next : ℕ} → j < length old → next ≡ (at + 1) % length ring → Placing ring p old (set out j (get_or ring at 0)) next (j + 1)
+  placing_more {next} l e =
       record {
         first = s.first;
         room = omega arith;
@@ -86,6 +86,6 @@ module _ {ring : List ℕ} {p : ℕ} {old out : List ℕ} {at j : ℕ} (s : Plac
         place = rw (e, s.place) (mod-add-mod (p + j) (length ring) 1 ∙ ap (λ (k : ℕ). k % length ring) (add_assoc p j 1));
       }
 
-  pub placing-end : (width : ℕ) → j ≡ width → out ≡ put_first (window_at ring width p) old
+  pub placing_end : (width : ℕ) → j ≡ width → out ≡ put_first (window_at ring width p) old
   unfolding window_at
-  placing-end width e = rw (← e) (s.list ∙ grown_whole (level_on ring p) j old)
+  placing_end width e = rw (← e) (s.list ∙ grown_whole (level_on ring p) j old)

@@ -10,8 +10,8 @@ use Rattle.cell_run.specs.Run.{run_checks, level_checks}
 use Rattle.window.specs.Calls.{ring, window_checks}
 
 module _ (width step : ℕ) (numbers scratch : List ℕ) where
-  pub windows-in-row : (r : Run) → in_row (window_checks (run_checks r) (ring r) width step numbers scratch) check_row ≡ true
-  windows-in-row r = refl
+  pub windows_in_row : (r : Run) → in_row (window_checks (run_checks r) (ring r) width step numbers scratch) check_row ≡ true
+  windows_in_row r = refl
 
-  pub windows-of-levels-in-row : (ls : List ℕ) → in_row (window_checks (level_checks ls) ls width step numbers scratch) check_row ≡ true
-  windows-of-levels-in-row ls = refl
+  pub windows_of_levels_in_row : (ls : List ℕ) → in_row (window_checks (level_checks ls) ls width step numbers scratch) check_row ≡ true
+  windows_of_levels_in_row ls = refl

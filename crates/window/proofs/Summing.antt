@@ -71,14 +71,14 @@ horner_step x number (suc (suc k)) l z =
 
 module _ {ls : List ℕ} {number i : ℕ} (s : Summing ls number i) where
   module _ (l : 0 < i) {v : ℕ} (e : v ≡ coordinate_in ls (i - 1)) where
-    next-sum : factorial_sum (coordinate_in ls) (i - 1 - 1) + (number * i + v) * factorial (i - 1) ≡ window_number ls
-    next-sum = rw e (horner_step (coordinate_in ls) number i l (coordinate_low ls 0 (omega arith) 0 (omega arith)) ∙ s.sum)
+    next_sum : factorial_sum (coordinate_in ls) (i - 1 - 1) + (number * i + v) * factorial (i - 1) ≡ window_number ls
+    next_sum = rw e (horner_step (coordinate_in ls) number i l (coordinate_low ls 0 (omega arith) 0 (omega arith)) ∙ s.sum)
 
     pub sum_fits : number * i + v ≤ 479001600
-    sum_fits = omega (arith, le-mul_of_pos_right (number * i + v) (factorial_pos (i - 1)), next-sum, number_low ls s.small)
+    sum_fits = omega (arith, le-mul_of_pos_right (number * i + v) (factorial_pos (i - 1)), next_sum, number_low ls s.small)
 
     pub step : Summing ls (number * i + v) (i - 1)
-    step = record { small = s.small; last = omega (arith, s.last); sum = next-sum }
+    step = record { small = s.small; last = omega (arith, s.last); sum = next_sum }
 
   pub end : i ≤ 1 → number ≡ window_number ls
   unfolding factorial_sum

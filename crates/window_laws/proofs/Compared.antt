@@ -9,11 +9,11 @@ use lib.ListN.{length, get_or}
 use Rattle.order.proofs.Cells.{true_order, order_range}
 use Rattle.group.specs.Levels.{level}
 use Rattle.group.proofs.Levels.{level_next}
-use Rattle.push_up.proofs.Orders.{Falling, falling-shows}
+use Rattle.push_up.proofs.Orders.{Falling, falling_shows}
 use Rattle.sensing.specs.Sense.{stands_above, sensed}
 use Rattle.sensing.specs.LevelCells.{Stands, Different}
 use Rattle.sensing.proofs.Sensed.{sensed_is_order, sensed_back}
-use Rattle.sensing.proofs.LevelCells.{rank_stands, levels-fall, present_by_level}
+use Rattle.sensing.proofs.LevelCells.{rank_stands, levels_fall, present_by_level}
 use Rattle.window.specs.Ring.{window_order, window_number}
 use Rattle.window_laws.specs.Compared.{SameComparisons}
 use Rattle.window_laws.proofs.Numbers.{number_by_order}
@@ -25,20 +25,20 @@ cell_range ls = order_range (length ls) (window_order ls) (sensed_is_order (leng
 
 module _ (ls ms : List ℕ) (n : length ls ≡ length ms) (d : Different (length ls) ls) (a : SameComparisons ls ms) where
   -- the other window's levels fall along it too
-  alike-falling : Falling 1 (window_order ls) ms
+  alike_falling : Falling 1 (window_order ls) ms
   unfolding Falling level sensed
-  alike-falling i l =
+  alike_falling i l =
       let xs = window_order ls in
       let m : suc i < length ls = omega (arith, (sensed_is_order (length ls) ls).size) in
       let p = cell_range ls i (omega arith) in
       let q = cell_range ls (suc i) m in
-      omega (arith, a (get_or xs (suc i) 0 - 1) (get_or xs i 0 - 1) (omega arith) (omega arith) (levels-fall stands_above present_by_level ls (length ls) d i (suc i) (omega arith) m))
+      omega (arith, a (get_or xs (suc i) 0 - 1) (get_or xs i 0 - 1) (omega arith) (omega arith) (levels_fall stands_above present_by_level ls (length ls) d i (suc i) (omega arith) m))
 
-  alike-order : window_order ls ≡ window_order ms
-  alike-order =
+  alike_order : window_order ls ≡ window_order ms
+  alike_order =
       let xs = window_order ls in
       let o = true_order (length ls) xs (sensed_is_order (length ls) ls) in
-      sym (sensed_back (length ls) xs ms o (falling-shows 1 xs ms alike-falling)) ∙ ap (λ (k : ℕ). sensed k ms) n
+      sym (sensed_back (length ls) xs ms o (falling_shows 1 xs ms alike_falling)) ∙ ap (λ (k : ℕ). sensed k ms) n
 
 -- ---- from the order to comparisons
 
@@ -53,4 +53,4 @@ order_alike ls ms n f same i j hi hj l =
 pub number_by_comparison : (ls ms : List ℕ) → length ls ≡ length ms → Different (length ls) ls → Different (length ms) ms → (window_number ls ≡ window_number ms) ↔ SameComparisons ls ms
 number_by_comparison ls ms n d f =
     let t = number_by_order ls ms n in
-    ((λ e. order_alike ls ms n f (t.0 e)), (λ a. t.1 (alike-order ls ms n d a)))
+    ((λ e. order_alike ls ms n f (t.0 e)), (λ a. t.1 (alike_order ls ms n d a)))

@@ -12,14 +12,14 @@ use lib.ListN.{length, get_or}
 use borrow.Author.Tests.{le-leb}
 use Rattle.order.specs.Cells.{tabulate, is_order}
 use Rattle.order.proofs.Cells.{IsOrder, order_true, true_order, order_range}
-use Rattle.order.proofs.Places.{own-place}
-use Rattle.order.proofs.Tabulate.{length-tabulate, get_d_tabulate}
+use Rattle.order.proofs.Places.{own_place}
+use Rattle.order.proofs.Tabulate.{length_tabulate, get_d_tabulate}
 use Rattle.coordinates.specs.Coordinates.{coordinate_of, order_from}
-use Rattle.coordinates.proofs.RoundTrip.{order_ext, order_back, order_is, coordinate-back}
+use Rattle.coordinates.proofs.RoundTrip.{order_ext, order_back, order_is, coordinate_back}
 use Rattle.group.specs.Levels.{level}
 use Rattle.group.specs.Record.{all_at_most}
 use Rattle.push_up.specs.PushUp.{singles, Shows}
-use Rattle.push_up.proofs.Orders.{Falling, falling-shows}
+use Rattle.push_up.proofs.Orders.{Falling, falling_shows}
 use Rattle.sensing.specs.Sense.{sensed}
 use Rattle.sensing.proofs.Sensed.{sensed_order_lem, sensed_back}
 use Rattle.window.specs.Ring.{factorial, factorial_sum, order_number, window_order, window_number, window_at, number_at, window_numbers}
@@ -61,7 +61,7 @@ numbered (suc m) k l =
     let e : suc m - 1 ≡ m = omega arith in
     let low : (i : ℕ) → i < suc m → digit k i ≤ i = λ i h. digit_low k m i (omega arith) in
     rw e
-    (sum_ext (coordinate_of (order_from (digit k) (suc m))) (digit k) m (λ i p h. coordinate-back (digit k) (suc m) low i (omega arith))
+    (sum_ext (coordinate_of (order_from (digit k) (suc m))) (digit k) m (λ i p h. coordinate_back (digit k) (suc m) low i (omega arith))
     ∙ sum_of_digits k m ∙ mod-eq_of_lt l)
 
 numbered_is : (n k : ℕ) → IsOrder n (order_numbered n k)
@@ -85,14 +85,14 @@ module _ (ls : List ℕ) where
   number_below = ((orders_numbered (length ls)).0 (window_order ls) (sensed_order_lem (length ls) ls)).0
 
   -- the order in which a reading finds a window's cells is the one that has the window's number
-  pub number-order : order_numbered (length ls) (window_number ls) ≡ window_order ls
+  pub number_order : order_numbered (length ls) (window_number ls) ≡ window_order ls
   unfolding window_number
-  number-order = ((orders_numbered (length ls)).0 (window_order ls) (sensed_order_lem (length ls) ls)).1
+  number_order = ((orders_numbered (length ls)).0 (window_order ls) (sensed_order_lem (length ls) ls)).1
 
 pub number_by_order : (ls ms : List ℕ) → length ls ≡ length ms → (window_number ls ≡ window_number ms) ↔ (window_order ls ≡ window_order ms)
 unfolding window_number
 number_by_order ls ms l =
-    ((λ e. sym (number-order ls) ∙ ap₂ order_numbered l e ∙ number-order ms), (λ e. ap₂ order_number l e))
+    ((λ e. sym (number_order ls) ∙ ap₂ order_numbered l e ∙ number_order ms), (λ e. ap₂ order_number l e))
 
 -- along a ring
 pub numbers_below : (ring : List ℕ) (width step k : ℕ) → k < length ring / step → get_or (window_numbers ring width step) k 0 < factorial width
@@ -110,12 +110,12 @@ module _ (n : ℕ) (xs : List ℕ) (o : IsOrder n xs) where
       let r = order_range n xs o k l in
       let x = get_or xs k 0 in
       let e : suc (x - 1) ≡ x = omega arith in
-      get_d_tabulate n _ (x - 1) 0 (omega arith) ∙ rw e (omega (arith, own-place n xs o k l))
+      get_d_tabulate n _ (x - 1) 0 (omega arith) ∙ rw e (omega (arith, own_place n xs o k l))
 
-  along-shows : Shows 1 (singles xs) (levels_along n xs)
+  along_shows : Shows 1 (singles xs) (levels_along n xs)
   unfolding Falling
-  along-shows =
-      falling-shows 1 xs (levels_along n xs)
+  along_shows =
+      falling_shows 1 xs (levels_along n xs)
       (λ i l. let m : suc i < n = omega (arith, o.size) in omega (arith, along_at (suc i) m, along_at i (omega arith)))
 
 all_tabulate : (m n : ℕ) (f : ℕ → ℕ) → ((k : ℕ) → f k ≤ m) → all_at_most m (tabulate n f) ≡ true
@@ -124,30 +124,30 @@ all_tabulate m zero f h = refl
 all_tabulate m (suc n) f h = rw (le-leb (f 0) m (h 0)) (all_tabulate m n (λ k. f (suc k)) (λ k. h (suc k)))
 
 module _ (n : ℕ) (xs : List ℕ) where
-  pub levels-length : length (levels_along n xs) ≡ n
+  pub levels_length : length (levels_along n xs) ≡ n
   unfolding levels_along
-  levels-length = length-tabulate n _
+  levels_length = length_tabulate n _
 
-  pub levels-low : all_at_most n (levels_along n xs) ≡ true
+  pub levels_low : all_at_most n (levels_along n xs) ≡ true
   unfolding levels_along
-  levels-low = all_tabulate n n _ (λ c. omega arith)
+  levels_low = all_tabulate n n _ (λ c. omega arith)
 
-  pub order-had : is_order n xs ≡ true → sensed n (levels_along n xs) ≡ xs
-  order-had o = sensed_back n xs (levels_along n xs) o (along-shows n xs (order_true n xs o))
+  pub order_had : is_order n xs ≡ true → sensed n (levels_along n xs) ≡ xs
+  order_had o = sensed_back n xs (levels_along n xs) o (along_shows n xs (order_true n xs o))
 
 module _ (n k : ℕ) (l : k < factorial n) where
-  pub number-had : window_number (levels_along n (order_numbered n k)) ≡ k
+  pub number_had : window_number (levels_along n (order_numbered n k)) ≡ k
   unfolding window_number
-  number-had =
+  number_had =
       let t = (orders_numbered n).1 k l in
-      rw (levels-length n (order_numbered n k), order-had n (order_numbered n k) t.0) t.1
+      rw (levels_length n (order_numbered n k), order_had n (order_numbered n k) t.0) t.1
 
   -- by the one window of a ring of n cells
-  pub number-found : 1 ≤ n → window_numbers (levels_along n (order_numbered n k)) n n ≡ k ∷ []
+  pub number_found : 1 ≤ n → window_numbers (levels_along n (order_numbered n k)) n n ≡ k ∷ []
   unfolding window_numbers
-  number-found p =
+  number_found p =
       let ls = levels_along n (order_numbered n k) in
-      let e = levels-length n (order_numbered n k) in
+      let e = levels_length n (order_numbered n k) in
       let one : length ls / n ≡ 1 = ap (λ (m : ℕ). m / n) e ∙ div_self p in
       let whole : window_at ls n (0 * n) ≡ ls = ap₂ (window_at ls) (sym e) (zero-mul n) ∙ window_ring ls in
-      ap (λ (m : ℕ). tabulate m (number_at ls n n)) one ∙ ap (λ (j : ℕ). j ∷ []) (ap window_number whole ∙ number-had)
+      ap (λ (m : ℕ). tabulate m (number_at ls n n)) one ∙ ap (λ (j : ℕ). j ∷ []) (ap window_number whole ∙ number_had)

@@ -8,9 +8,9 @@ use lib.ListN.{length}
 use borrow.Author.Tests.{not-true, not-false}
 use Rattle.lines.specs.Line.{left_line, sum_line}
 use Rattle.lines.proofs.Paste.{puts_join}
-use Rattle.lines.proofs.InRoom.{put-line}
+use Rattle.lines.proofs.InRoom.{put_line_lem}
 use Rattle.calls.proofs.Running.{taken_parts}
-use Rattle.calls.proofs.Printed.{end_refused, end-put}
+use Rattle.calls.proofs.Printed.{end_refused, end_put}
 use Rattle.calls.proofs.finish.Statement.{statement}
 use Rattle.calls.proofs.finish.Tie as tie
 
@@ -40,8 +40,8 @@ cast-put-sum c =
     let l = c.before.before.before.before in
     omega (arith, (rest l.before.before.before.before).1, l.put-left.ensures.1.1)
 
-returns-2 : tie.Need-returns-2
-returns-2 c =
+returns_2 : tie.Need-returns-2
+returns_2 c =
     let s = c.before.before in
     let l = s.before.before.before.before.before in
     let p = l.before.before.before.before in
@@ -50,11 +50,11 @@ returns-2 c =
     let end = p.put-lines.result.end in
     let last = p.put-lines.result.progress in
     let input = q.before.before.before.before.before.args.input.now in
-    let left = put-line 26 end (left_line (length input % 8)) p.put-lines.new.1.1.0 (omega (arith, room)) l.put-left.ensures in
+    let left = put_line_lem 26 end (left_line (length input % 8)) p.put-lines.new.1.1.0 (omega (arith, room)) l.put-left.ensures in
     let sum =
-    put-line 25 l.put-left.result (sum_line last.pulses) l.put-left.new.0 (omega (arith, room, left.kept, l.put-left.ensures.1.1))
+    put_line_lem 25 l.put-left.result (sum_line last.pulses) l.put-left.new.0 (omega (arith, room, left.kept, l.put-left.ensures.1.1))
     s.put-sum.ensures in
-    end-put _ _ _ (put-lines-requires q q.before.before.before.before.before.lifetimes) last
+    end_put _ _ _ (put-lines-requires q q.before.before.before.before.before.lifetimes) last
     p.put-lines.ensures.1.1
     (puts_join (puts_join p.put-lines.ensures.0 left) sum)
 
@@ -70,4 +70,4 @@ finish_spec =
     cast-put-sum
     (λ c κs. search rules)
     (λ c. search rules)
-    returns-2)
+    returns_2)

@@ -3,7 +3,7 @@
 use borrow.Author.Rules.{rules}
 use Prim.Native.Nat.{◌-◌}
 use native.Mathlib.Omega.{arith}
-use Rattle.calls.proofs.Running.{Running, running_starts, running_steps, lines-put, progress-made}
+use Rattle.calls.proofs.Running.{Running, running_starts, running_steps, lines_put, progress_made}
 use Rattle.calls.proofs.put_lines.Statement.{statement}
 use Rattle.calls.proofs.put_lines.Tie as tie
 
@@ -67,8 +67,8 @@ returns : tie.Need-returns invariant-loop decreases-loop
 returns c =
     let run = c.before.loop.invariant in
     let same = c.before.before.by-fields.ensures in (
-      rw same at (lines-put run c.loop-test.false),
-      (omega (arith, run.within, run.reached, run.whole), rw same at (progress-made run c.loop-test.false)),
+      rw same at (lines_put run c.loop-test.false),
+      (omega (arith, run.within, run.reached, run.whole), rw same at (progress_made run c.loop-test.false)),
     )
 
 pub put-lines-spec : {M : Type 1} → statement M

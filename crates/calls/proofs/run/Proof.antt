@@ -9,7 +9,7 @@ use lib.ListN.{length, take, drop}
 use lib.Seq.{length-take-le}
 use Rattle.runs.specs.declared.Progress.{Progress}
 use Rattle.runs.specs.Pieces.{end_printed}
-use Rattle.calls.proofs.Printed.{whole-printed}
+use Rattle.calls.proofs.Printed.{whole_printed}
 use Rattle.calls.proofs.run.Statement.{statement}
 use Rattle.calls.proofs.run.Tie as tie
 
@@ -23,7 +23,7 @@ returns c =
     let args = z.before.before.before.before.args in
     let e =
     ap (λ (p : Progress). end_printed p (take z.size-read.result args.input.now) args.out.now) z.before.begin.ensures
-    ∙ whole-printed args.input.now z.size-read.result z.size-read.ensures args.out.now in
+    ∙ whole_printed args.input.now z.size-read.result z.size-read.ensures args.out.now in
     (f.finish.ensures.0 ∙ ap length e, f.finish.ensures.1 ∙ ap (λ (t : List ℕ). t ++ drop f.finish.result args.out.now) e)
 
 pub run_spec : {M : Type 1} → statement M

@@ -49,8 +49,8 @@ returns c =
     let past : c.all-at-most2.result ≡ all_at_most 0 (drop n xs) = c.all-at-most2.ensures ∙ ap (all_at_most 0) (to_end n xs (bounds a).1) in
     past ∙ rw first at (row_split 4095 n xs)
 
-returns-2 : tie.Need-returns-2
-returns-2 c =
+returns_2 : tie.Need-returns-2
+returns_2 c =
     let a = c.before.before.before.before in
     let xs = a.args.run.levels in
     let n = a.args.run.len in
@@ -70,4 +70,4 @@ has-row-spec =
     part-all-at-most-end
     (λ c κs. search rules)
     returns
-    returns-2)
+    returns_2)

@@ -7,8 +7,8 @@ use Rattle.cell_run.proofs.is_length.Tie as tie
 returns : tie.Need-returns
 returns c = rw (le-leb 3 _ c.if1.true)
 
-returns-2 : tie.Need-returns-2
-returns-2 c = rw (lt-leb 3 _ c.if1.false)
+returns_2 : tie.Need-returns-2
+returns_2 c = rw (lt-leb 3 _ c.if1.false)
 
 pub is-length-spec : {M : Type 1} → statement M
-is-length-spec = tie.close (tie.spec returns returns-2)
+is-length-spec = tie.close (tie.spec returns returns_2)

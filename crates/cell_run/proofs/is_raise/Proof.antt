@@ -11,8 +11,8 @@ cast-result c = search rules
 returns : tie.Need-returns
 returns c = let a = c.before.args in rw (le-leb a.from a.to c.if1.true)
 
-returns-2 : tie.Need-returns-2
-returns-2 c = let a = c.before.args in rw (lt-leb a.from a.to c.if1.false)
+returns_2 : tie.Need-returns-2
+returns_2 c = let a = c.before.args in rw (lt-leb a.from a.to c.if1.false)
 
 pub is-raise-spec : {M : Type 1} → statement M
-is-raise-spec = tie.close (tie.spec cast-result returns returns-2)
+is-raise-spec = tie.close (tie.spec cast-result returns returns_2)

@@ -11,8 +11,8 @@ is-size-requires c κs = search rules
 returns : tie.Need-returns
 returns c = rw (sym c.before.is-size.ensures ∙ c.if1.true)
 
-returns-2 : tie.Need-returns-2
-returns-2 c = rw (sym c.before.is-size.ensures ∙ c.if1.false)
+returns_2 : tie.Need-returns-2
+returns_2 c = rw (sym c.before.is-size.ensures ∙ c.if1.false)
 
 pub is-width-spec : {M : Type 1} → statement M
-is-width-spec = tie.close (tie.spec is-size-requires returns returns-2)
+is-width-spec = tie.close (tie.spec is-size-requires returns returns_2)

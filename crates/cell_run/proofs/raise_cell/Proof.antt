@@ -11,7 +11,7 @@ use lib.ListN.{get_or, set}
 use Rattle.order.specs.declared.Refusal.TheVariants.{NoRaise}
 use Rattle.order.specs.Refusals.{number_of, Told}
 use Rattle.order.proofs.Cells.{both}
-use Rattle.order.proofs.Refusals.{accepted, passed_on, told-done, told-refused, check-fails, check-holds, all_hold, outcome-first, later-decide}
+use Rattle.order.proofs.Refusals.{accepted, passed_on, told_done, told_refused, check_fails, check_holds, all_hold, outcome_first, later_decide}
 use Rattle.group.specs.Levels.{level, put}
 use Rattle.cell_run.specs.declared.Run.{Run}
 use Rattle.cell_run.specs.Run.{cell_checks, raise_cell_of}
@@ -33,7 +33,7 @@ unfolding raise_cell_of
 returns c =
     let d = c.enum-told2.given.1 in
     let a = c.before.before.before.args in
-    passed_on _ _ _ _ (outcome-first _ (cell_checks a.t1 a.cell) c.before.before.check-cell.ensures d) _ d
+    passed_on _ _ _ _ (outcome_first _ (cell_checks a.t1 a.cell) c.before.before.check-cell.ensures d) _ d
 
 -- the checks of the cell have passed
 passed : (c : tie.After-enum-told) → let a = c.before.before.before.args in number_of (cell_checks a.t1 a.cell) ≡ 0
@@ -58,14 +58,14 @@ element-copy-out-is-raise c = (found c).1
 is-raise-requires : tie.Need-is-raise-requires
 is-raise-requires c κs = search rules
 
-returns-2 : tie.Need-returns-2
+returns_2 : tie.Need-returns-2
 unfolding raise_cell_of level
-returns-2 c =
+returns_2 c =
     let n = c.before.before.before in
     let a = n.before.before.before.before.args in
-    told-refused _ _ _ NoRaise
-    (later-decide _ (cell_checks a.t1 a.cell) (passed n.before)
-    ∙ check-fails _ _ (sym (rw n.number.ensures at c.before.is-raise.ensures) ∙ not-true _ c.if1.true))
+    told_refused _ _ _ NoRaise
+    (later_decide _ (cell_checks a.t1 a.cell) (passed n.before)
+    ∙ check_fails _ _ (sym (rw n.number.ensures at c.before.is-raise.ensures) ∙ not-true _ c.if1.true))
 
 -- the level is no lower, and not above 4,095
 rising : (c : tie.Else1) → let n = c.before.before.before in let a = n.before.before.before.before.args in
@@ -94,8 +94,8 @@ returns-3 c =
     let n = c.before.before.before in
     let a = n.before.before.before.before.args in
     ap (stored a.t1 a.level) n.number.ensures
-    ∙ told-done _ _ _
-    (later-decide _ (cell_checks a.t1 a.cell) (passed n.before) ∙ check-holds _ _ (rw n.number.ensures at (rising c)) ∙ all_hold)
+    ∙ told_done _ _ _
+    (later_decide _ (cell_checks a.t1 a.cell) (passed n.before) ∙ check_holds _ _ (rw n.number.ensures at (rising c)) ∙ all_hold)
 
 pub raise-cell-spec : {M : Type 1} → statement M
 raise-cell-spec =
@@ -110,7 +110,7 @@ raise-cell-spec =
     mul-is-raise
     element-copy-out-is-raise
     is-raise-requires
-    returns-2
+    returns_2
     cast-next
     mul_next
     element-write-next

@@ -8,7 +8,7 @@ use borrow.Author.Tests.{not-true, not-false, le-ltb}
 use borrow.Author.Rules.{rules}
 use Rattle.order.specs.declared.Refusal.TheVariants.{Size, NoSymbol}
 use Rattle.order.specs.Refusals.{is_size}
-use Rattle.order.proofs.Refusals.{check-fails, check-holds, told-refused, size_true}
+use Rattle.order.proofs.Refusals.{check_fails, check_holds, told_refused, size_true}
 use Rattle.coordinates.specs.Conversion.{order_of_coordinates}
 use Rattle.code.specs.Words.{K}
 use Rattle.code.specs.Symbols.{codeword_of}
@@ -19,7 +19,7 @@ use Rattle.code.proofs.codeword.Tie as tie
 returns : tie.Need-returns
 unfolding codeword_of
 returns c =
-    c.no-order.ensures ∙ told-refused _ _ _ Size (check-fails _ _ (sym c.before.before.is-size.ensures ∙ not-true _ c.before.if1.true))
+    c.no-order.ensures ∙ told_refused _ _ _ Size (check_fails _ _ (sym c.before.before.is-size.ensures ∙ not-true _ c.before.if1.true))
 
 -- the size has passed
 sized : (c : tie.Else1) → is_size c.before.before.args.n ≡ true
@@ -28,14 +28,14 @@ sized c = sym c.before.is-size.ensures ∙ not-false _ c.if1.false
 words-of-requires : tie.Need-words-of-requires
 words-of-requires c κs = sized c
 
-returns-2 : tie.Need-returns-2
+returns_2 : tie.Need-returns-2
 unfolding codeword_of
-returns-2 c =
+returns_2 c =
     let d = c.before.before in
     let s = d.before in
     let a = s.before.before.args in
     let none : K a.n ≤ a.symbol = omega (arith, d.words_of.ensures) in
-    c.no-order2.ensures ∙ told-refused _ _ _ NoSymbol (check-holds _ _ (sized s) ∙ check-fails _ _ (le-ltb a.symbol (K a.n) none))
+    c.no-order2.ensures ∙ told_refused _ _ _ NoSymbol (check_holds _ _ (sized s) ∙ check_fails _ _ (le-ltb a.symbol (K a.n) none))
 
 -- the symbol is below K(n)
 some : (c : tie.Else2) → let a = c.before.before.before.before.args in a.symbol < K a.n
@@ -62,7 +62,7 @@ codeword-spec =
     returns
     words-of-requires
     (λ c κs. search rules)
-    returns-2
+    returns_2
     word-requires
     (λ c κs. search rules)
     returns-3)

@@ -5,8 +5,8 @@ use mathlib.Core.Path.{◌≡◌}
 use Rattle.order.specs.Refusals.{number_of}
 use Rattle.order.proofs.Refusals.{accepted}
 use Rattle.decoder.specs.Nearest.{decode_checks}
-use Rattle.decoder.proofs.NearestWord.{nearest-number}
-use Rattle.code.proofs.Reading.{corrected-refused, found_word, corrected-found}
+use Rattle.decoder.proofs.NearestWord.{nearest_number}
+use Rattle.code.proofs.Reading.{corrected_refused, found_word, corrected_found}
 use Rattle.code.proofs.corrected.Statement.{statement}
 use Rattle.code.proofs.corrected.Tie as tie
 
@@ -14,22 +14,22 @@ returns : tie.Need-returns
 returns c =
     let told = c.before.outcome.given in
     let a = c.before.before.before.before.nearest in
-    corrected-refused _ a.result a.ensures told.0.0 told.1
+    corrected_refused _ a.result a.ensures told.0.0 told.1
 
 -- the order has passed its checks, and is not lost
 done : (c : tie.After-enum-told) → number_of (decode_checks c.before.before.before.before.args.o) ≡ 0
-done c = accepted (nearest-number _ c.before.before.before.nearest.result c.before.before.before.nearest.ensures) c.enum_told.given.1
+done c = accepted (nearest_number _ c.before.before.before.nearest.result c.before.before.before.nearest.ensures) c.enum_told.given.1
 
 number-requires : tie.Need-number-requires
 number-requires c κs =
     let a = c.before.before.before.nearest in
     found_word _ a.result a.ensures (done c)
 
-returns-2 : tie.Need-returns-2
-returns-2 c =
+returns_2 : tie.Need-returns-2
+returns_2 c =
     let e = c.before.before in
     let a = e.before.before.before.nearest in
-    corrected-found _ a.result a.ensures (done e) c.before.number.ensures c.verdict-at.ensures
+    corrected_found _ a.result a.ensures (done e) c.before.number.ensures c.verdict-at.ensures
 
 pub corrected-spec : {M : Type 1} → statement M
 corrected-spec =
@@ -41,4 +41,4 @@ corrected-spec =
     (λ c. search rules)
     number-requires
     (λ c κs. search rules)
-    returns-2)
+    returns_2)

@@ -6,7 +6,7 @@ use native.Mathlib.Omega.{arith}
 use borrow.Author.Rules.{rules}
 use Rattle.code.specs.Tails.{before, having}
 use Rattle.code.proofs.Rule.{tails_fit}
-use Rattle.code.proofs.Steps.{Owing, none, more, counted, before_zero, before_more, before-next}
+use Rattle.code.proofs.Steps.{Owing, none, more, counted, before_zero, before_more, before_next}
 use Rattle.code.proofs.pass.Statement.{statement}
 use Rattle.code.proofs.pass.Tie as tie
 
@@ -29,7 +29,7 @@ add-count c =
     omega (
       arith,
       read c,
-      before-next a.n a.i a.r (omega arith) c.before.before.loop.u (omega arith),
+      before_next a.n a.i a.r (omega arith) c.before.before.loop.u (omega arith),
       tails_fit a.n a.i a.r (omega arith) (omega arith),
     )
 

@@ -8,8 +8,8 @@ use Rattle.code.proofs.verdict_at.Tie as tie
 returns : tie.Need-returns
 returns c = clean_at c.before.args.place (omega arith)
 
-returns-2 : tie.Need-returns-2
-returns-2 c = put_right_at c.before.args.place (omega arith)
+returns_2 : tie.Need-returns-2
+returns_2 c = put_right_at c.before.args.place (omega arith)
 
 pub verdict-at-spec : {M : Type 1} → statement M
-verdict-at-spec = tie.close (tie.spec returns returns-2)
+verdict-at-spec = tie.close (tie.spec returns returns_2)

@@ -59,8 +59,8 @@ word-by-requires-10 c κs = asked c.before.before.before.before 9 (last_size _ c
 returns : tie.Need-returns
 returns c = told c.before.before.before.before.before 0 (omega arith) _ c.word-by.ensures
 
-returns-2 : tie.Need-returns-2
-returns-2 c = told c.before.before.before.before.before 1 (omega arith) _ c.word-by2.ensures
+returns_2 : tie.Need-returns-2
+returns_2 c = told c.before.before.before.before.before 1 (omega arith) _ c.word-by2.ensures
 
 returns-3 : tie.Need-returns-3
 returns-3 c = told c.before.before.before.before.before 2 (omega arith) _ c.word-by3.ensures
@@ -121,7 +121,7 @@ word-spec =
     (λ c. search rules)
     word-by-requires-10
     returns
-    returns-2
+    returns_2
     returns-3
     returns-4
     returns-5

@@ -20,8 +20,8 @@ first c k h e = rw e (first_count (3 + k) (omega arith) (omega arith) (omega ari
 returns : tie.Need-returns
 returns c = first c.before.before 0 (omega arith) (omega arith)
 
-returns-2 : tie.Need-returns-2
-returns-2 c = first c.before.before 1 (omega arith) (omega arith)
+returns_2 : tie.Need-returns-2
+returns_2 c = first c.before.before 1 (omega arith) (omega arith)
 
 returns-3 : tie.Need-returns-3
 returns-3 c = first c.before.before 2 (omega arith) (omega arith)
@@ -63,7 +63,7 @@ words-of-spec =
     (λ c. search rules)
     (λ c. search rules)
     returns
-    returns-2
+    returns_2
     returns-3
     returns-4
     returns-5

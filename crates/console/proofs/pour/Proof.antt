@@ -7,7 +7,7 @@ use native.Mathlib.Omega.{arith}
 use lib.ListN.{length, take}
 use lib.Seq.{length-take-le}
 use borrow.Author.Tests.{ltb-true}
-use Rattle.console.proofs.Sent.{Sent, sent_starts, sent-goes-on, sent-ends, sent-steps}
+use Rattle.console.proofs.Sent.{Sent, sent_starts, sent_goes_on, sent_ends, sent_steps}
 use Rattle.console.proofs.pour.Statement.{statement}
 use Rattle.console.proofs.pour.Tie as tie
 
@@ -58,7 +58,7 @@ take-piece-requires : tie.Need-take-piece-requires invariant-loop decreases-loop
 take-piece-requires c κs =
     let t = c.before.before in
     let at = t.before.before.loop in
-    sent-goes-on at.invariant (take at.size at.input) (full t.before)
+    sent_goes_on at.invariant (take at.size at.input) (full t.before)
 
 array-share-prefix-text : tie.Need-array-share-prefix-text invariant-loop decreases-loop
 array-share-prefix-text c = search rules
@@ -90,7 +90,7 @@ loop-again c =
     let s = c.before.before.before.before.before.before.before.before in
     let t = s.before.before.before in
     let sent = t.before.before.loop.invariant in
-    sent-steps sent _ (full t.before) (left t) s.take-piece.ensures.1.0 (search rules) (search rules) (search rules)
+    sent_steps sent _ (full t.before) (left t) s.take-piece.ensures.1.0 (search rules) (search rules) (search rules)
 
 array-share-prefix-input-2 : tie.Need-array-share-prefix-input-2 invariant-loop decreases-loop
 array-share-prefix-input-2 c = search rules
@@ -104,7 +104,7 @@ slice-aggregate-take-last-2 c = search rules
 take-last-requires : tie.Need-take-last-requires invariant-loop decreases-loop
 take-last-requires c κs =
     let at = c.before.before.before.loop in
-    sent-ends at.invariant (take at.size at.input) (length-take-le at.size at.input (omega (arith, at.invariant.read, at.invariant.buffer)))
+    sent_ends at.invariant (take at.size at.input) (length-take-le at.size at.input (omega (arith, at.invariant.read, at.invariant.buffer)))
 
 array-share-prefix-text-2 : tie.Need-array-share-prefix-text-2 invariant-loop decreases-loop
 array-share-prefix-text-2 c = search rules
@@ -115,8 +115,8 @@ slice-aggregate-write-all-2 c = sym (length-take-le _ _ (array-share-prefix-text
 write-all-requires-2 : tie.Need-write-all-requires-2 invariant-loop decreases-loop
 write-all-requires-2 c κs = search rules
 
-returns-2 : tie.Need-returns-2 invariant-loop decreases-loop
-returns-2 c = search rules
+returns_2 : tie.Need-returns-2 invariant-loop decreases-loop
+returns_2 c = search rules
 
 ended-requires : tie.Need-ended-requires invariant-loop decreases-loop
 ended-requires c κs = search rules
@@ -159,7 +159,7 @@ pour-spec =
     array-share-prefix-text-2
     slice-aggregate-write-all-2
     write-all-requires-2
-    returns-2
+    returns_2
     ended-requires
     returns-3
     returns-4)

@@ -6,8 +6,8 @@ use Rattle.coordinates.proofs.places_left_out.Statement.{statement}
 use Rattle.coordinates.proofs.places_left_out.Tie as tie
 
 -- as many as n, or more: none
-returns-2 : tie.Need-returns-2
-returns-2 c = omega (arith, c.if1.false)
+returns_2 : tie.Need-returns-2
+returns_2 c = omega (arith, c.if1.false)
 
 pub places-left-out-spec : {M : Type 1} → statement M
-places-left-out-spec = tie.close (tie.spec (λ c. search rules) (λ c. search rules) returns-2)
+places-left-out-spec = tie.close (tie.spec (λ c. search rules) (λ c. search rules) returns_2)

@@ -36,8 +36,8 @@ counted : (c : tie.After-count-of) →
     c.count_of.result ≡ ones (a.met % 2 ^ (a.c - 1))
 counted c = c.count_of.ensures ∙ rw (bit c.before)
 
-returns-2 : tie.Need-returns-2
-returns-2 c = (rw (counted c), rw (le-ltb _ _ c.before.before.if1.false, counted c))
+returns_2 : tie.Need-returns-2
+returns_2 c = (rw (counted c), rw (le-ltb _ _ c.before.before.if1.false, counted c))
 
 pub put-coordinate-spec : {M : Type 1} → statement M
 put-coordinate-spec =
@@ -52,4 +52,4 @@ put-coordinate-spec =
     (λ c. search rules)
     (λ c. search rules)
     mul-result
-    returns-2)
+    returns_2)

@@ -9,7 +9,7 @@ use Rattle.order.specs.Order.{cell_numbers}
 use Rattle.order.proofs.Numbers.{length_mapped, length_places, place_at}
 use Rattle.order.proofs.Sweep.{Turn}
 use Rattle.coordinates.specs.Sweep.{sweep_of}
-use Rattle.coordinates.proofs.Counting.{Counted, counted_none, counted-low, counted-high, sum-small, counted-more, counted-values, counted-sum}
+use Rattle.coordinates.proofs.Counting.{Counted, counted_none, counted_low, counted_high, sum_small, counted_more, counted_values, counted_sum}
 use Rattle.coordinates.proofs.sweep_places.Statement.{statement}
 use Rattle.coordinates.proofs.sweep_places.Tie as tie
 
@@ -34,7 +34,7 @@ turn c =
     record { state = at.before.loop.invariant.1; more = omega (arith, at.loop-test.true); at = c.number.ensures ∙ place_at _ _ }
 
 put-coordinate-requires : tie.Need-put-coordinate-requires invariant-loop decreases-loop
-put-coordinate-requires c κs = let t = turn c.before in (counted-low t, counted-high t)
+put-coordinate-requires c κs = let t = turn c.before in (counted_low t, counted_high t)
 
 -- the term that is added
 term : (c : tie.After-put-coordinate invariant-loop decreases-loop) →
@@ -44,12 +44,12 @@ term : (c : tie.After-put-coordinate invariant-loop decreases-loop) →
 term c = c.put-coordinate.ensures.0
 
 add-sum : tie.Need-overflow-add-sum invariant-loop decreases-loop
-add-sum c = rw (term c) (omega (arith, sum-small (turn c.before.before)))
+add-sum c = rw (term c) (omega (arith, sum_small (turn c.before.before)))
 
 bit-of-requires : tie.Need-bit-of-requires invariant-loop decreases-loop
 bit-of-requires c κs =
     let t = turn c.before.before in
-    (omega (arith, counted-low t), omega (arith, counted-high t))
+    (omega (arith, counted_low t), omega (arith, counted_high t))
 
 -- the bit of the cell
 bit : (c : tie.After-bit-of invariant-loop decreases-loop) → c.bit-of.result ≡ 2 ^ (c.before.before.before.number.result - 1)
@@ -59,7 +59,7 @@ loop-again : tie.Need-loop-preserved invariant-loop decreases-loop
 loop-again c =
     let p = c.before in
     let n = p.before.before in
-    (omega (arith, n.before.before.loop-test.true), rw (bit c, p.put-coordinate.ensures.1, term p) (counted-more (turn n)))
+    (omega (arith, n.before.before.loop-test.true), rw (bit c, p.put-coordinate.ensures.1, term p) (counted_more (turn n)))
 
 -- the sweep has come down to the places that are left out
 ended : (c : tie.After-loop invariant-loop decreases-loop) →
@@ -71,7 +71,7 @@ returns : tie.Need-returns invariant-loop decreases-loop
 unfolding sweep_of
 returns c =
     let s = c.before.loop.invariant.1 in
-    rw (counted-values s _ (ended c), counted-sum s _ (ended c))
+    rw (counted_values s _ (ended c), counted_sum s _ (ended c))
 
 pub sweep-places-spec : {M : Type 1} → statement M
 sweep-places-spec =

@@ -9,7 +9,7 @@ use lib.IntN.{sub_ℕ}
 use lib.ListN.{get_or}
 use Rattle.ranks.proofs.RankNumbers.{rank_at_lem}
 use Rattle.cost.proofs.Signs.{sub_fits}
-use Rattle.cost.proofs.Loops.{Changed, changed-none, changed-more, changed-all}
+use Rattle.cost.proofs.Loops.{Changed, changed_none, changed_more, changed_all}
 use Rattle.cost.proofs.displacements_by_rank.Statement.{statement}
 use Rattle.cost.proofs.displacements_by_rank.Tie as tie
 
@@ -20,7 +20,7 @@ abbrev decreases-loop : tie.decreases-loop
 decreases-loop from to found₀ at₀ found at = 12 - at
 
 loop-holds : tie.Need-loop-init invariant-loop decreases-loop
-loop-holds c = changed-none _ _
+loop-holds c = changed_none _ _
 
 -- the two ranks that are read are low
 low : (c : tie.After-displacement-arg2 invariant-loop decreases-loop) →
@@ -37,11 +37,11 @@ displacement-requires c κs = low c
 
 loop-again : tie.Need-loop-preserved invariant-loop decreases-loop
 loop-again c =
-    changed-more _ _ c.before.before.before.before.loop.invariant c.before.before.before.loop-test.true
+    changed_more _ _ c.before.before.before.before.loop.invariant c.before.before.before.loop-test.true
     (rw c.displacement.ensures (to_z-of_z w8 _ (sub_fits _ _ (low c.before).1 (low c.before).0) ∙ ap₂ sub_ℕ (rank_at_lem _ _) (rank_at_lem _ _)))
 
 returns : tie.Need-returns invariant-loop decreases-loop
-returns c = changed-all _ _ c.before.loop.invariant c.loop-test.false
+returns c = changed_all _ _ c.before.loop.invariant c.loop-test.false
 
 pub displacements-by-rank-spec : {M : Type 1} → statement M
 displacements-by-rank-spec =

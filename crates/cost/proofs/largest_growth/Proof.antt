@@ -5,7 +5,7 @@ use Prim.Native.Nat.{◌-◌}
 use native.Mathlib.Omega.{arith}
 use mathlib.Core.Logic.{⊎_elim}
 use Rattle.ranks.proofs.RankNumbers.{rank_at_lem}
-use Rattle.cost.proofs.Loops.{Grown, grown_none, grown-kept, grown_more, grown_all}
+use Rattle.cost.proofs.Loops.{Grown, grown_none, grown_kept, grown_more, grown_all}
 use Rattle.cost.proofs.largest_growth.Statement.{statement}
 use Rattle.cost.proofs.largest_growth.Tie as tie
 
@@ -31,7 +31,7 @@ loop-again c =
     let from = rank_at_lem start.args.t1 at.loop.i in
     let to = rank_at_lem start.args.t2 at.loop.i in
     ⊎_elim (λ w. rw w.1 (grown_more at.loop.invariant (omega arith) from to (omega (arith, w.0.taken)) start.requires.2))
-    (λ w. rw w.1 (grown-kept at.loop.invariant (omega arith) from to (omega (arith, w.0.left))))
+    (λ w. rw w.1 (grown_kept at.loop.invariant (omega arith) from to (omega (arith, w.0.left))))
     c.if1.branch
 
 returns : tie.Need-returns invariant-loop decreases-loop

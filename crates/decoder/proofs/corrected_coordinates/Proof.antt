@@ -4,7 +4,7 @@ use borrow.Author.Rules.{rules}
 use native.Mathlib.Omega.{arith}
 use Prim.Native.Nat.{◌≤◌}
 use Rattle.order.proofs.Records.{passed}
-use Rattle.decoder.proofs.Neighbours.{Neighbours, cells-read, coordinate-small, stored_more, coordinate-some, stored-less}
+use Rattle.decoder.proofs.Neighbours.{Neighbours, cells_read, coordinate_small, stored_more, coordinate_some, stored_less}
 use Rattle.decoder.proofs.corrected_coordinates.Statement.{statement}
 use Rattle.decoder.proofs.corrected_coordinates.Tie as tie
 
@@ -25,13 +25,13 @@ pair c = record { place = c.before.before.before.before.requires.0; above = c.be
 
 -- the greater stands below
 sub-next : tie.Need-overflow-sub-next
-sub-next c = omega (arith, (cells-read (pair c.before)).0)
+sub-next c = omega (arith, (cells_read (pair c.before)).0)
 
 element-copy-out-next : tie.Need-element-copy-out-next
-element-copy-out-next c = omega (arith, (cells-read (pair c.before)).1, size c.before.before.before.before.before)
+element-copy-out-next c = omega (arith, (cells_read (pair c.before)).1, size c.before.before.before.before.before)
 
 add-next : tie.Need-overflow-add-next
-add-next c = let t = c.before in omega (arith, coordinate-small (pair t.before) _ t.before.before.before.before.before.requires.1 t.if1.true)
+add-next c = let t = c.before in omega (arith, coordinate_small (pair t.before) _ t.before.before.before.before.before.requires.1 t.if1.true)
 
 sub-next-2 : tie.Need-overflow-sub-next-2
 sub-next-2 c = sub-next c.before
@@ -44,13 +44,13 @@ returns c = let t = c.before in stored_more (pair t.before) _ t.before.before.be
 
 -- the greater stands above
 sub-next-3 : tie.Need-overflow-sub-next-3
-sub-next-3 c = let (_, q, apart) = cells-read (pair c.before) in omega arith
+sub-next-3 c = let (_, q, apart) = cells_read (pair c.before) in omega arith
 
 element-copy-out-next-2 : tie.Need-element-copy-out-next-2
-element-copy-out-next-2 c = omega (arith, (cells-read (pair c.before)).0, size c.before.before.before.before.before)
+element-copy-out-next-2 c = omega (arith, (cells_read (pair c.before)).0, size c.before.before.before.before.before)
 
 sub-next-4 : tie.Need-overflow-sub-next-4
-sub-next-4 c = let t = c.before in coordinate-some (pair t.before) _ t.before.before.before.before.before.requires.1 t.if1.false
+sub-next-4 c = let t = c.before in coordinate_some (pair t.before) _ t.before.before.before.before.before.requires.1 t.if1.false
 
 sub-next-5 : tie.Need-overflow-sub-next-5
 sub-next-5 c = sub-next-3 c.before
@@ -58,8 +58,8 @@ sub-next-5 c = sub-next-3 c.before
 element-write-next-2 : tie.Need-element-write-next-2
 element-write-next-2 c = element-copy-out-next-2 c.before
 
-returns-2 : tie.Need-returns-2
-returns-2 c = let t = c.before in stored-less (pair t.before) _ t.before.before.before.before.before.requires.1 t.if1.false
+returns_2 : tie.Need-returns-2
+returns_2 c = let t = c.before in stored_less (pair t.before) _ t.before.before.before.before.before.requires.1 t.if1.false
 
 pub corrected-coordinates-spec : {M : Type 1} → statement M
 corrected-coordinates-spec =
@@ -81,4 +81,4 @@ corrected-coordinates-spec =
     sub-next-5
     element-write-next-2
     returns
-    returns-2)
+    returns_2)

@@ -10,11 +10,11 @@ returns : tie.Need-returns
 unfolding corrects_by
 returns c = let s = c.before in rw (lt-ltb s.args.above s.args.below c.if1.true)
 
-returns-2 : tie.Need-returns-2
+returns_2 : tie.Need-returns-2
 unfolding corrects_by
-returns-2 c = let s = c.before in rw (le-ltb s.args.above s.args.below c.if1.false)
+returns_2 c = let s = c.before in rw (le-ltb s.args.above s.args.below c.if1.false)
 
 pub corrects-spec : {M : Type 1} → statement M
 corrects-spec =
     tie.close
-    (tie.spec (λ c. search rules) (λ c. search rules) (λ c. search rules) (λ c. search rules) (λ c. search rules) returns returns-2)
+    (tie.spec (λ c. search rules) (λ c. search rules) (λ c. search rules) (λ c. search rules) (λ c. search rules) returns returns_2)

@@ -6,8 +6,8 @@ use Prim.Native.Nat.{◌-◌, ◌≤◌}
 use mathlib.Core.Path.{sym, ◌∙◌}
 use Rattle.order.proofs.Numbers.{length_mapped}
 use Rattle.order.proofs.Records.{passed}
-use Rattle.decoder.proofs.Looking.{Looking, looking_none, looking-low, looking-found, looking-more, looking-all}
-use Rattle.decoder.proofs.Neighbours.{Neighbours, cells-read}
+use Rattle.decoder.proofs.Looking.{Looking, looking_none, looking_low, looking_found, looking_more, looking_all}
+use Rattle.decoder.proofs.Neighbours.{Neighbours, cells_read}
 use Rattle.decoder.proofs.exchange_for.Statement.{statement}
 use Rattle.decoder.proofs.exchange_for.Tie as tie
 
@@ -45,13 +45,13 @@ pair c =
 corrects-requires : tie.Need-corrects-requires invariant-loop decreases-loop
 corrects-requires c κs =
     let at = c.before.before.before.before.before in
-    let ((p, q), (r, s), _) = cells-read (pair c) in
-    (omega arith, size at.before, looking-low at.loop.invariant, p, q, r, s)
+    let ((p, q), (r, s), _) = cells_read (pair c) in
+    (omega arith, size at.before, looking_low at.loop.invariant, p, q, r, s)
 
 returns : tie.Need-returns invariant-loop decreases-loop
 returns c =
     let b = c.before.before in
-    looking-found b.before.before.before.before.before.loop.invariant (pair b) (sym c.before.corrects.ensures ∙ c.if1.true)
+    looking_found b.before.before.before.before.before.loop.invariant (pair b) (sym c.before.corrects.ensures ∙ c.if1.true)
 
 add-k : tie.Need-overflow-add-k invariant-loop decreases-loop
 add-k c = omega (arith, size c.before.before.before.before.before.before.before.before)
@@ -62,10 +62,10 @@ loop-less c = omega arith
 loop-again : tie.Need-loop-preserved invariant-loop decreases-loop
 loop-again c =
     let b = c.before.before in
-    looking-more b.before.before.before.before.before.loop.invariant (pair b) (sym c.before.corrects.ensures ∙ c.if1.false)
+    looking_more b.before.before.before.before.before.loop.invariant (pair b) (sym c.before.corrects.ensures ∙ c.if1.false)
 
-returns-2 : tie.Need-returns-2 invariant-loop decreases-loop
-returns-2 c = looking-all c.before.loop.invariant c.loop-test.false
+returns_2 : tie.Need-returns-2 invariant-loop decreases-loop
+returns_2 c = looking_all c.before.loop.invariant c.loop-test.false
 
 pub exchange-for-spec : {M : Type 1} → statement M
 exchange-for-spec =
@@ -84,4 +84,4 @@ exchange-for-spec =
     add-k
     loop-less
     loop-again
-    returns-2)
+    returns_2)

@@ -5,9 +5,9 @@ use native.Mathlib.Omega.{arith}
 use borrow.Author.Rules.{rules}
 use Rattle.order.specs.Refusals.{outcome_number, number_of}
 use Rattle.order.specs.Order.{order_checks}
-use Rattle.order.proofs.Refusals.{accepted, told-refused, told-done}
+use Rattle.order.proofs.Refusals.{accepted, told_refused, told_done}
 use Rattle.decoder.specs.Nearest.{is_codeword_of}
-use Rattle.decoder.proofs.ZeroSyndrome.{same_number, sum-tested, passed_size}
+use Rattle.decoder.proofs.ZeroSyndrome.{same_number, sum_tested, passed_size}
 use Rattle.decoder.proofs.is_codeword.Statement.{statement}
 use Rattle.decoder.proofs.is_codeword.Tie as tie
 
@@ -16,7 +16,7 @@ unfolding is_codeword_of
 returns c =
     let a = c.before.before.before in
     let told = c.before.outcome.given in
-    told-refused _ _ _ told.0.0 (sym (same_number _ _ a.sweep-of.result a.sweep-of.ensures) ∙ ap outcome_number told.1)
+    told_refused _ _ _ told.0.0 (sym (same_number _ _ a.sweep-of.result a.sweep-of.ensures) ∙ ap outcome_number told.1)
 
 -- the order has passed its checks
 done : (c : tie.After-enum-told) → number_of (order_checks c.before.before.before.args.o) ≡ 0
@@ -25,12 +25,12 @@ done c = accepted (same_number _ _ c.before.before.sweep-of.result c.before.befo
 syndrome-requires : tie.Need-syndrome-requires
 syndrome-requires c κs = passed_size _ (done c.before)
 
-returns-2 : tie.Need-returns-2
+returns_2 : tie.Need-returns-2
 unfolding is_codeword_of
-returns-2 c =
+returns_2 c =
     let d = c.before.before in
     let a = d.before.before.sweep-of in
-    rw (c.syndrome.ensures, sum-tested _ _ a.result a.ensures (done d) (omega arith)) (told-done _ _ _ (done d))
+    rw (c.syndrome.ensures, sum_tested _ _ a.result a.ensures (done d) (omega arith)) (told_done _ _ _ (done d))
 
 pub is-codeword-spec : {M : Type 1} → statement M
 is-codeword-spec =
@@ -41,4 +41,4 @@ is-codeword-spec =
     returns
     (λ c. search rules)
     syndrome-requires
-    returns-2)
+    returns_2)

@@ -11,8 +11,8 @@ use Rattle.order.proofs.Numbers.{length_mapped}
 use Rattle.order.proofs.Records.{passed}
 use Rattle.coordinates.specs.Conversion.{coordinates_of}
 use Rattle.decoder.specs.Steps.{syndrome_of, Exchangeable}
-use Rattle.decoder.proofs.ZeroSyndrome.{same_number, same-coordinates, same-syndrome, passed_size}
-use Rattle.decoder.proofs.NearestWord.{nearest-refused, nearest-lost, nearest-clean, nearest-put-right, read-clean, read_place}
+use Rattle.decoder.proofs.ZeroSyndrome.{same_number, same_coordinates, same_syndrome, passed_size}
+use Rattle.decoder.proofs.NearestWord.{nearest_refused, nearest_lost, nearest_clean, nearest_put_right, read_clean, read_place}
 use Rattle.decoder.proofs.nearest.Statement.{statement}
 use Rattle.decoder.proofs.nearest.Tie as tie
 
@@ -20,7 +20,7 @@ returns : tie.Need-returns
 returns c =
     let told = c.before.before.outcome.given in
     let a = c.before.before.before.before.sweep-of in
-    c.no_word.ensures ∙ nearest-refused _ told.0.0 (sym (same_number _ _ a.result a.ensures) ∙ ap outcome_number told.1)
+    c.no_word.ensures ∙ nearest_refused _ told.0.0 (sym (same_number _ _ a.result a.ensures) ∙ ap outcome_number told.1)
 
 -- the order, that it has passed its checks, and its coordinates
 abbrev read : tie.After-enum-told → Order
@@ -30,7 +30,7 @@ done : (c : tie.After-enum-told) → number_of (order_checks (read c)) ≡ 0
 done c = accepted (same_number _ _ c.before.before.sweep-of.result c.before.before.sweep-of.ensures) c.enum_told.given.1
 
 coordinates : (c : tie.After-enum-told) → c.before.before.sweep-of.result.sweep.coordinates ≡ coordinates_of (read c)
-coordinates c = same-coordinates _ _ c.before.before.sweep-of.result c.before.before.sweep-of.ensures (done c) (omega arith)
+coordinates c = same_coordinates _ _ c.before.before.sweep-of.result c.before.before.sweep-of.ensures (done c) (omega arith)
 
 syndrome-requires : tie.Need-syndrome-requires
 syndrome-requires c κs = passed_size _ (done c.before.before)
@@ -39,13 +39,13 @@ syndrome : (c : tie.After-syndrome) → let o = read c.before.before.before in c
 syndrome c =
     let e = c.before.before.before in
     let a = e.before.before.sweep-of in
-    c.syndrome.ensures ∙ same-syndrome _ _ a.result a.ensures (done e) (omega arith)
+    c.syndrome.ensures ∙ same_syndrome _ _ a.result a.ensures (done e) (omega arith)
 
 -- the syndrome is 0
-returns-2 : tie.Need-returns-2
-returns-2 c =
+returns_2 : tie.Need-returns-2
+returns_2 c =
     let e = c.before.before.before.before in
-    nearest-clean _ (done e) (search length_mapped) (read-clean _ (done e) (omega (arith, syndrome c.before))) refl (coordinates e)
+    nearest_clean _ (done e) (search length_mapped) (read_clean _ (done e) (omega (arith, syndrome c.before))) refl (coordinates e)
 
 -- it is not
 exchange-for-requires : tie.Need-exchange-for-requires
@@ -54,7 +54,7 @@ exchange-for-requires c κs = record { passed = done c.before.before.before.befo
 returns-3 : tie.Need-returns-3
 returns-3 c =
     let f = c.before.before.before in
-    c.no-word2.ensures ∙ nearest-lost _ (done f.before.before.before.before.before) (omega (arith, f.exchange-for.ensures))
+    c.no-word2.ensures ∙ nearest_lost _ (done f.before.before.before.before.before) (omega (arith, f.exchange-for.ensures))
 
 -- and the order is not lost
 place : (c : tie.Else2) → Exchangeable (read c.before.before.before.before.before.before.before) c.before.before.exchange-for.result
@@ -85,7 +85,7 @@ returns-4 c =
     let l = w.before in
     let f = l.before.before.exchange-for in
     let e = place l in
-    nearest-put-right _ e.passed _ (omega (arith, f.ensures)) (omega (arith, e.last)) _ w.exchanged.ensures _ c.corrected-coordinates.ensures
+    nearest_put_right _ e.passed _ (omega (arith, f.ensures)) (omega (arith, e.last)) _ w.exchanged.ensures _ c.corrected-coordinates.ensures
 
 pub nearest-spec : {M : Type 1} → statement M
 nearest-spec =
@@ -97,7 +97,7 @@ nearest-spec =
     returns
     (λ c. search rules)
     syndrome-requires
-    returns-2
+    returns_2
     exchange-for-requires
     (λ c κs. search rules)
     returns-3

@@ -8,7 +8,7 @@ use borrow.Fn.Kinds.{In, Out}
 use borrow.Fn.PlainCycle.{Measures, is, falls, and}
 use Rattle.order.specs.Cells.{place_of}
 use Rattle.order.proofs.Numbers.{length_mapped, length_places, place_at}
-use Rattle.distance.proofs.Step.{Step, place-first, place-last, next-listed, next-distance, next_small}
+use Rattle.distance.proofs.Step.{Step, place_first, place_last, next_listed, next_distance, next_small}
 use Rattle.distance.proofs.distance_from.Reads as reads
 use Rattle.distance.proofs.distance_from.Kinds as kinds
 use Rattle.distance.proofs.+distance_from.Lts-distance_from as lts
@@ -59,28 +59,28 @@ step t c =
     }
 
 sub_behind : (t : ℕ) → lts.Need-overflow-sub-behind (calls t) (given t) reads.Post
-sub_behind t c = let high = place-last (step t c) in search rules
+sub_behind t c = let high = place_last (step t c) in search rules
 
 cast_behind : (t : ℕ) → lts.Need-overflow-cast-behind (calls t) (given t) reads.Post
 cast_behind t c = search rules
 
 drop_at_requires : (t : ℕ) → lts.Need-drop-at-requires (calls t) (given t) reads.Post
 drop_at_requires t c κs =
-    let low = place-first (step t c) in
-    let high = place-last (step t c) in
+    let low = place_first (step t c) in
+    let high = place_last (step t c) in
     search rules
 
 sub_distance_from : (t : ℕ) → lts.Need-overflow-sub-distance-from (calls t) (given t) reads.Post
 sub_distance_from t c = search rules
 
-distance-from-requires : (t : ℕ) → lts.Need-distance-from-requires (calls t) (given t) reads.Post
-distance-from-requires t c κs = (omega arith, next-listed (step t c.before) _ c.drop_at.ensures)
+distance_from_requires : (t : ℕ) → lts.Need-distance-from-requires (calls t) (given t) reads.Post
+distance_from_requires t c κs = (omega arith, next_listed (step t c.before) _ c.drop_at.ensures)
 
-add-result : (t : ℕ) → lts.Need-overflow-add-result (calls t) (given t) reads.Post
-add-result t c = omega (arith, c.distance-from.ensures, next_small (step t c.before.before) _ c.before.drop_at.ensures)
+add_result : (t : ℕ) → lts.Need-overflow-add-result (calls t) (given t) reads.Post
+add_result t c = omega (arith, c.distance-from.ensures, next_small (step t c.before.before) _ c.before.drop_at.ensures)
 
-returns-2 : (t : ℕ) → lts.Need-returns-2 (calls t) (given t) reads.Post
-returns-2 t c = omega (arith, c.distance-from.ensures, next-distance (step t c.before.before) _ c.before.drop_at.ensures)
+returns_2 : (t : ℕ) → lts.Need-returns-2 (calls t) (given t) reads.Post
+returns_2 t c = omega (arith, c.distance-from.ensures, next_distance (step t c.before.before) _ c.before.drop_at.ensures)
 
 pub +distance-from-spec : {M : Type 1} → statement M
 +distance-from-spec =
@@ -98,6 +98,6 @@ pub +distance-from-spec : {M : Type 1} → statement M
     (cast_behind t)
     (drop_at_requires t)
     (sub_distance_from t)
-    (distance-from-requires t)
-    (add-result t)
-    (returns-2 t))
+    (distance_from_requires t)
+    (add_result t)
+    (returns_2 t))

@@ -5,7 +5,7 @@ use Prim.Native.Nat.{◌-◌}
 use native.Mathlib.Omega.{arith}
 use Rattle.order.specs.Order.{cell_numbers}
 use Rattle.order.proofs.Numbers.{length_mapped, length_places, place_at}
-use Rattle.distance.proofs.Search.{Passed, passed_none, passed_here, passed-more, passed-all}
+use Rattle.distance.proofs.Search.{Passed, passed_none, passed_here, passed_more, passed_all}
 use Rattle.distance.proofs.place.Statement.{statement}
 use Rattle.distance.proofs.place.Tie as tie
 
@@ -22,10 +22,10 @@ returns : tie.Need-returns invariant-loop decreases-loop
 returns c = passed_here c.before.before.before.loop.invariant c.before.before.loop-test.true (place_at _ _) c.if1.true
 
 loop-again : tie.Need-loop-preserved invariant-loop decreases-loop
-loop-again c = passed-more c.before.before.before.loop.invariant c.before.before.loop-test.true (place_at _ _) c.if1.false
+loop-again c = passed_more c.before.before.before.loop.invariant c.before.before.loop-test.true (place_at _ _) c.if1.false
 
-returns-2 : tie.Need-returns-2 invariant-loop decreases-loop
-returns-2 c = passed-all c.before.loop.invariant c.loop-test.false
+returns_2 : tie.Need-returns-2 invariant-loop decreases-loop
+returns_2 c = passed_all c.before.loop.invariant c.loop-test.false
 
 pub place-spec : {M : Type 1} → statement M
 place-spec =
@@ -40,4 +40,4 @@ place-spec =
     (λ c. search rules)
     (λ c. search rules)
     loop-again
-    returns-2)
+    returns_2)

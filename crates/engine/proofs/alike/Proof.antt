@@ -6,7 +6,7 @@ use mathlib.Core.Path.{◌≡◌, ◌∙◌}
 use mathlib.Core.Bool.{◌&&◌}
 use lib.Dec.{eqb}
 use Rattle.engine.specs.ReadStore.{alike_of}
-use Rattle.engine.proofs.Answers.{first-refused, second-refused, both_read}
+use Rattle.engine.proofs.Answers.{first_refused, second_refused, both_read}
 use Rattle.engine.proofs.alike.Statement.{statement}
 use Rattle.engine.proofs.alike.Tie as tie
 
@@ -14,16 +14,16 @@ returns : tie.Need-returns
 returns c =
     let a = c.before.before.before in
     let s = a.before.args in
-    c.refused.ensures ∙ first-refused s.g s.h a.read.result a.read.ensures c.before.enum_told.given.1
+    c.refused.ensures ∙ first_refused s.g s.h a.read.result a.read.ensures c.before.enum_told.given.1
 
-returns-2 : tie.Need-returns-2
-returns-2 c =
+returns_2 : tie.Need-returns-2
+returns_2 c =
     let b = c.before.before.before in
     let f = b.before.before in
     let a = f.before.before in
     let s = a.before.args in
     c.refused2.ensures
-    ∙ second-refused s.g s.h a.read.result a.read.ensures f.first.given.1 b.read2.result b.read2.ensures c.before.enum-told2.given.1
+    ∙ second_refused s.g s.h a.read.result a.read.ensures f.first.given.1 b.read2.result b.read2.ensures c.before.enum-told2.given.1
 
 -- both are read
 read : (c : tie.After-second) →
@@ -56,6 +56,6 @@ alike_spec =
     (λ c. search rules)
     (λ c. search rules)
     (λ c κs. search rules)
-    returns-2
+    returns_2
     returns-3
     returns-4)

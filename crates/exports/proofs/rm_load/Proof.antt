@@ -13,8 +13,8 @@ returns c =
     let known = c.before.before.answer.given.1 in
     (c.refusal-number.ensures ∙ number_of told_load known made.0, (made.1, value_of told_load known made.0))
 
-returns-2 : tie.Need-returns-2
-returns-2 c =
+returns_2 : tie.Need-returns-2
+returns_2 c =
     let made = c.before.before.before.before.before.load.ensures in
     let known = c.before.answer2.given.1 in
     (number_of told_load known made.0, (made.1, value_of told_load known made.0))
@@ -30,4 +30,4 @@ rm-load-spec =
     (λ c. search rules)
     returns
     (λ c. search rules)
-    returns-2)
+    returns_2)

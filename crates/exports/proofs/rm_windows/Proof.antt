@@ -12,8 +12,8 @@ returns c =
     let answered = c.before.before.before.before.before.before.before.before.windows-of-levels.ensures in
     (c.refusal-number.ensures ∙ number_of told_windows c.before.before.answer.given.1 answered.0, answered.1)
 
-returns-2 : tie.Need-returns-2
-returns-2 c =
+returns_2 : tie.Need-returns-2
+returns_2 c =
     let answered = c.before.before.before.before.before.before.windows-of-levels.ensures in
     (number_of told_windows c.enum_told.given.1 answered.0, answered.1)
 
@@ -30,4 +30,4 @@ rm-windows-spec =
     (λ c. search rules)
     (λ c. search rules)
     (λ c. search rules)
-    returns-2)
+    returns_2)

@@ -9,8 +9,8 @@ use Rattle.exports.proofs.rm_words.Tie as tie
 returns : tie.Need-returns
 returns c = value_of told_words c.enum_told.given.1 c.before.before.words.ensures
 
-returns-2 : tie.Need-returns-2
-returns-2 c = value_of told_words c.before.answer.given.1 c.before.before.before.words.ensures
+returns_2 : tie.Need-returns-2
+returns_2 c = value_of told_words c.before.answer.given.1 c.before.before.before.words.ensures
 
 pub rm-words-spec : {M : Type 1} → statement M
-rm-words-spec = tie.close (tie.spec (λ c κs. search rules) (λ c. search rules) (λ c. search rules) returns returns-2)
+rm-words-spec = tie.close (tie.spec (λ c κs. search rules) (λ c. search rules) (λ c. search rules) returns returns_2)

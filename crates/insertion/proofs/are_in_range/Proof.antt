@@ -7,7 +7,7 @@ use mathlib.Core.Bool.{◌&&◌, and-true, and-false}
 use mathlib.Core.Logic.{⊎_elim}
 use lib.Dec.{leb}
 use borrow.Author.Tests.{le-leb, lt-leb}
-use Rattle.insertion.proofs.Ranging.{RangedTo, ranged_none, ranged-more, ranged-all}
+use Rattle.insertion.proofs.Ranging.{RangedTo, ranged_none, ranged_more, ranged_all}
 use Rattle.insertion.proofs.are_in_range.Statement.{statement}
 use Rattle.insertion.proofs.are_in_range.Tie as tie
 
@@ -31,10 +31,10 @@ loop-again : tie.Need-loop-preserved invariant-loop decreases-loop
 loop-again c =
     let value = c.before in
     let turn = value.before.before.before in
-    rw (tested c) (ranged-more turn.before.loop.invariant turn.loop-test.true value.wide.ensures value.before.before.limit-of.ensures)
+    rw (tested c) (ranged_more turn.before.loop.invariant turn.loop-test.true value.wide.ensures value.before.before.limit-of.ensures)
 
 returns : tie.Need-returns invariant-loop decreases-loop
-returns c = ranged-all c.before.loop.invariant c.loop-test.false
+returns c = ranged_all c.before.loop.invariant c.loop-test.false
 
 pub are-in-range-spec : {M : Type 1} → statement M
 are-in-range-spec =

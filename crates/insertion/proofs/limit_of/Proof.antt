@@ -7,8 +7,8 @@ use Rattle.insertion.proofs.limit_of.Tie as tie
 returns : tie.Need-returns
 returns c = rw (le-leb _ _ c.if1.true)
 
-returns-2 : tie.Need-returns-2
-returns-2 c = rw (lt-leb _ _ c.if1.false)
+returns_2 : tie.Need-returns-2
+returns_2 c = rw (lt-leb _ _ c.if1.false)
 
 pub limit-of-spec : {M : Type 1} → statement M
-limit-of-spec = tie.close (tie.spec returns returns-2)
+limit-of-spec = tie.close (tie.spec returns returns_2)

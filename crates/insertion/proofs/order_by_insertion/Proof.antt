@@ -5,7 +5,7 @@ use borrow.Author.Rules.{rules}
 use Prim.Native.Nat.{◌-◌}
 use native.Mathlib.Omega.{arith}
 use Rattle.insertion.proofs.Insert.{Moved, moved_more, moved_all}
-use Rattle.insertion.proofs.Build.{Built, built_one, built_room, coordinate_low, built-more, built_all}
+use Rattle.insertion.proofs.Build.{Built, built_one, built_room, coordinate_low, built_more, built_all}
 use Rattle.insertion.proofs.order_by_insertion.Statement.{statement}
 use Rattle.insertion.proofs.order_by_insertion.Tie as tie
 
@@ -36,7 +36,7 @@ loop2-again c = moved_more c.before.before.loop2.invariant c.before.loop2-test.t
 loop-again : tie.Need-loop-preserved invariant-loop2 decreases-loop2 invariant-loop decreases-loop
 loop-again c =
     let w = c.before.before in
-    rw (moved_all c.before.loop2.invariant _ c.loop2-test.false) (built-more w.before.before.before.loop.invariant w.before.before.loop-test.true w.wide.ensures)
+    rw (moved_all c.before.loop2.invariant _ c.loop2-test.false) (built_more w.before.before.before.loop.invariant w.before.before.loop-test.true w.wide.ensures)
 
 returns : tie.Need-returns invariant-loop2 decreases-loop2 invariant-loop decreases-loop
 returns c = built_all c.before.loop.invariant c.loop-test.false

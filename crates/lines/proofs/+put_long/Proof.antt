@@ -65,8 +65,8 @@ high_put t j =
 cast_low : (t : ℕ) → lts.Need-overflow-cast-low (calls t) (given t) reads.Post
 cast_low t c = omega arith
 
-put-pair-requires : (t : ℕ) → lts.Need-put-pair-requires (calls t) (given t) reads.Post
-put-pair-requires t c κs =
+put_pair_requires : (t : ℕ) → lts.Need-put-pair-requires (calls t) (given t) reads.Post
+put_pair_requires t c κs =
     let entry = c.before.before.before in
     let high = high_put t c.before in
     (omega arith, omega (arith, entry.requires.1.1, last_four_length _ entry.requires.1.0, high.ends, high.kept))
@@ -95,7 +95,7 @@ pub +put-long-spec : {M : Type 1} → statement M
     (put_short_requires t)
     (put_long_requires t)
     (cast_low t)
-    (put-pair-requires t)
+    (put_pair_requires t)
     (put_pair_requires_2 t)
     (same_length t)
     (returns t)

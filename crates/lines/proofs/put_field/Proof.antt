@@ -32,8 +32,8 @@ put-number-requires c κs =
     let entry = c.before.before.before in
     simp length-set (omega (arith, entry.requires, short 9 (2 ^ 32) entry.ranges.n.fits tt))
 
-returns-2 : tie.Need-returns-2
-returns-2 c =
+returns_2 : tie.Need-returns-2
+returns_2 c =
     let n = c.before.before in
     let l = n.before.before in (
       puts_first (slice-write-out l) n.put-number.ensures,
@@ -41,7 +41,7 @@ returns-2 c =
     )
 
 same-length-2 : tie.Need-same-length-2
-same-length-2 c = (returns-2 c).0.kept
+same-length-2 c = (returns_2 c).0.kept
 
 pub put-field-spec : {M : Type 1} → statement M
 put-field-spec =
@@ -56,4 +56,4 @@ put-field-spec =
     (λ c. search rules)
     put-number-requires
     same-length-2
-    returns-2)
+    returns_2)

@@ -8,7 +8,7 @@ use mathlib.Core.List.{[], ◌∷◌, ◌++◌}
 use lib.ListN.{length-set}
 use Rattle.lines.specs.Line.{after, left_line}
 use Rattle.lines.proofs.Paste.{puts_none, puts_first, puts_as}
-use Rattle.lines.proofs.InRoom.{none-put, line-put}
+use Rattle.lines.proofs.InRoom.{none_put, line_put}
 use Rattle.lines.proofs.put_left.Statement.{statement}
 use Rattle.lines.proofs.put_left.Tie as tie
 
@@ -23,12 +23,12 @@ some zero h = absurd (h refl)
 some (suc k) h = refl
 
 returns : tie.Need-returns
-returns c = none-put _ _ _ _ (omega (arith, c.if1.true))
+returns c = none_put _ _ _ _ (omega (arith, c.if1.true))
 
-returns-2 : tie.Need-returns-2
-returns-2 c =
+returns_2 : tie.Need-returns-2
+returns_2 c =
     let room = c.before.if1.false in
-    line-put _ _ _ _ (omega (arith, room)) (puts_as (none _ c.if2.true) (puts_none _ _ (omega (arith, room)))) (omega arith)
+    line_put _ _ _ _ (omega (arith, room)) (puts_as (none _ c.if2.true) (puts_none _ _ (omega (arith, room)))) (omega arith)
 
 slice-write-out : tie.Need-slice-write-out
 slice-write-out c = omega (arith, c.before.if1.false)
@@ -43,7 +43,7 @@ returns-3 : tie.Need-returns-3
 returns-3 c =
     let n = c.before.before in
     let s = n.before.before in
-    line-put _ _ _ _
+    line_put _ _ _ _
     (omega (arith, s.before.if1.false))
     (puts_as (some _ s.if2.false) (puts_first {xs = s.before.before.before.args.out.now} (slice-write-out s) n.put-named.ensures.0))
     (omega (arith, n.put-named.ensures.1))
@@ -51,4 +51,4 @@ returns-3 c =
 pub put-left-spec : {M : Type 1} → statement M
 put-left-spec =
     tie.close
-    (tie.spec (λ c. search rules) returns returns-2 slice-write-out (λ c. search rules) put-named-requires same_length returns-3)
+    (tie.spec (λ c. search rules) returns returns_2 slice-write-out (λ c. search rules) put-named-requires same_length returns-3)

@@ -85,14 +85,14 @@ loop-again c =
     (small t.before.before.before.before.before t.before.loop.i)
     (puts_first (slice-write-out t) p.put-number.ensures)
 
-returns-2 : tie.Need-returns-2 invariant-loop decreases-loop
-returns-2 c =
+returns_2 : tie.Need-returns-2 invariant-loop decreases-loop
+returns_2 c =
     let l = c.before in
     let some = l.before.before in
     joining_ends {n = some.before.before.args.n} l.loop.invariant c.loop-test.false (cells l.before).1 (omega (arith, some.if1.false))
 
 same-length-2 : tie.Need-same-length-2 invariant-loop decreases-loop
-same-length-2 c = (returns-2 c).0.kept
+same-length-2 c = (returns_2 c).0.kept
 
 pub put-levels-spec : {M : Type 1} → statement M
 put-levels-spec =
@@ -114,4 +114,4 @@ put-levels-spec =
     loop-less
     loop-again
     same-length-2
-    returns-2)
+    returns_2)

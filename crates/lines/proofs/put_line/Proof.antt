@@ -11,7 +11,7 @@ use Rattle.records.specs.Records.{told_answered}
 use Rattle.lines.specs.Line.{level_text, numbers_of, line_of}
 use Rattle.lines.specs.Puts.{Puts}
 use Rattle.lines.proofs.Paste.{puts_join, puts_last, puts_as}
-use Rattle.lines.proofs.InRoom.{none-put, line-put}
+use Rattle.lines.proofs.InRoom.{none_put, line_put}
 use Rattle.lines.proofs.put_line.Statement.{statement}
 use Rattle.lines.proofs.put_line.Tie as tie
 
@@ -27,7 +27,7 @@ parts position kind number a e n l h =
     (puts_last 10 h (puts_join n l))
 
 returns : tie.Need-returns
-returns c = none-put _ _ _ _ (omega (arith, c.if1.true))
+returns c = none_put _ _ _ _ (omega (arith, c.if1.true))
 
 put-numbers-requires : tie.Need-put-numbers-requires
 put-numbers-requires c κs = omega (arith, c.before.before.if1.false)
@@ -50,13 +50,13 @@ same_length c =
     let n = l.before.before.before.before in
     simp length-set (l.put-levels.ensures.0.kept ∙ n.put-numbers.ensures.0.kept)
 
-returns-2 : tie.Need-returns-2
-returns-2 c =
+returns_2 : tie.Need-returns-2
+returns_2 c =
     let l = c.before.before in
     let n = l.before.before.before.before in
     let r = n.before.before.before in
     let o = r.before in
-    line-put _ _ _ _
+    line_put _ _ _ _
     (omega (arith, r.if1.false))
     (parts _ _ _ o.before.before.args.a o.outcome-number.ensures n.put-numbers.ensures.0 l.put-levels.ensures.0 (slice-write-out c))
     (omega (arith, n.put-numbers.ensures.1, l.put-levels.ensures.1))
@@ -73,4 +73,4 @@ put-line-spec =
     slice-write-out
     (λ c. search rules)
     same_length
-    returns-2)
+    returns_2)

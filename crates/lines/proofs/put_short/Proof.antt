@@ -14,22 +14,22 @@ put-small-requires-2 c κs =
     let more = last_two_length _ l.if1.false in
     (omega arith, omega (arith, l.before.before.requires.1))
 
-put-pair-requires : tie.Need-put-pair-requires
-put-pair-requires c κs =
+put_pair_requires : tie.Need-put-pair-requires
+put_pair_requires c κs =
     let m = c.before.before.before in
     let l = m.before.before in
     let more = last_two_length _ l.if1.false in
     (omega arith, omega (arith, l.before.before.requires.1, m.put-small2.ensures.ends, m.put-small2.ensures.kept))
 
-returns-2 : tie.Need-returns-2
-returns-2 c =
+returns_2 : tie.Need-returns-2
+returns_2 c =
     let p = c.before.before in
     let m = p.before.before.before.before in
     puts_as (sym (decimal_last_two _ m.before.before.if1.false)) (puts_join m.put-small2.ensures p.put-pair.ensures)
 
 same-length-2 : tie.Need-same-length-2
-same-length-2 c = (returns-2 c).kept
+same-length-2 c = (returns_2 c).kept
 
 pub put-short-spec : {M : Type 1} → statement M
 put-short-spec =
-    tie.close (tie.spec (λ c κs. search rules) (λ c. search rules) (λ c. search rules) put-small-requires-2 put-pair-requires same-length-2 returns-2)
+    tie.close (tie.spec (λ c κs. search rules) (λ c. search rules) (λ c. search rules) put-small-requires-2 put_pair_requires same-length-2 returns_2)

@@ -20,22 +20,22 @@ returns c = puts_as (sym (decimal_digit _ c.if1.true)) (puts_byte _ _ _ (room c)
 same_length : tie.Need-same-length
 same_length c = (returns c).kept
 
-put-pair-requires : tie.Need-put-pair-requires
-put-pair-requires c κs =
+put_pair_requires : tie.Need-put-pair-requires
+put_pair_requires c κs =
     let l = c.before in
     let entry = l.before.before in
     let two = pair_length _ l.if1.false entry.requires.0 in
     (entry.requires.0, omega (arith, entry.requires.1))
 
-returns-2 : tie.Need-returns-2
-returns-2 c =
+returns_2 : tie.Need-returns-2
+returns_2 c =
     let p = c.before.before in
     let l = p.before.before in
     puts_as (sym (decimal_pair _ l.if1.false l.before.before.requires.0)) p.put-pair.ensures
 
 same-length-2 : tie.Need-same-length-2
-same-length-2 c = (returns-2 c).kept
+same-length-2 c = (returns_2 c).kept
 
 pub put-small-spec : {M : Type 1} → statement M
 put-small-spec =
-    tie.close (tie.spec (λ c. search rules) (λ c. search rules) room (λ c. search rules) same_length returns put-pair-requires same-length-2 returns-2)
+    tie.close (tie.spec (λ c. search rules) (λ c. search rules) room (λ c. search rules) same_length returns put_pair_requires same-length-2 returns_2)

@@ -5,7 +5,7 @@ use Prim.Native.Nat.{◌-◌}
 use mathlib.Core.Path.{refl}
 use Rattle.order.specs.Order.{cell_numbers}
 use Rattle.order.proofs.Numbers.{length_mapped, length_places, place_at}
-use Rattle.order.proofs.Spare.{PaddedTo, padded_none, padded-more, padded-end}
+use Rattle.order.proofs.Spare.{PaddedTo, padded_none, padded_more, padded_end}
 use Rattle.order.proofs.is_padded.Statement.{statement}
 use Rattle.order.proofs.is_padded.Tie as tie
 
@@ -21,10 +21,10 @@ loop-holds c = padded_none _ _ (length_places _ (search length_mapped)) c.requir
 loop-again : tie.Need-loop-preserved invariant-loop decreases-loop
 loop-again c =
     let p = c.before.before in
-    rw c.bits-among.ensures.0 (padded-more p.loop.invariant c.before.loop-test.true (place_at _ _) c.bits-among.ensures.1 refl)
+    rw c.bits-among.ensures.0 (padded_more p.loop.invariant c.before.loop-test.true (place_at _ _) c.bits-among.ensures.1 refl)
 
 returns : tie.Need-returns invariant-loop decreases-loop
-returns c = padded-end c.before.loop.invariant c.loop-test.false
+returns c = padded_end c.before.loop.invariant c.loop-test.false
 
 pub is-padded-spec : {M : Type 1} → statement M
 is-padded-spec =

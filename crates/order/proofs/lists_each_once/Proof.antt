@@ -9,7 +9,7 @@ use lib.Pow.{pow_mono, pow_pos}
 use Rattle.order.specs.Order.{cell_numbers}
 use Rattle.order.proofs.Numbers.{length_mapped, length_places, place_at}
 use Rattle.order.proofs.Spare.{padded_small, padded_zeros}
-use Rattle.order.proofs.Marks.{Met, met_none, met-more, met_all}
+use Rattle.order.proofs.Marks.{Met, met_none, met_more, met_all}
 use Rattle.order.proofs.lists_each_once.Statement.{statement}
 use Rattle.order.proofs.lists_each_once.Tie as tie
 
@@ -39,7 +39,7 @@ shl-met c = omega (arith, small c)
 loop-again : tie.Need-loop-preserved invariant-loop decreases-loop
 loop-again c =
     let b = bit _ (small c) in
-    met-more c.before.loop.invariant c.loop-test.true (place_at _ _) (small c) (omega (arith, b))
+    met_more c.before.loop.invariant c.loop-test.true (place_at _ _) (small c) (omega (arith, b))
 
 shl-result : tie.Need-overflow-shl-result invariant-loop decreases-loop
 shl-result c = omega (arith, c.before.before.requires.0)

@@ -7,7 +7,7 @@ use mathlib.Core.Bool.{false}
 use mathlib.Core.List.{[]}
 use Rattle.order.proofs.Numbers.{length_mapped}
 use Rattle.group.specs.declared.Group.{Group}
-use Rattle.page.proofs.Pages.{LikeTo, page_low, page_high, like_start, like-more, like-not, like-end}
+use Rattle.page.proofs.Pages.{LikeTo, page_low, page_high, like_start, like_more, like_not, like_end}
 use Rattle.page.proofs.is_page.Statement.{statement}
 use Rattle.page.proofs.is_page.Tie as tie
 
@@ -24,8 +24,8 @@ decreases-loop page first i₀ i = page.count - i
 returns : tie.Need-returns invariant-loop decreases-loop
 returns c = page_low _ (omega arith)
 
-returns-2 : tie.Need-returns-2 invariant-loop decreases-loop
-returns-2 c = page_high _ (omega arith)
+returns_2 : tie.Need-returns-2 invariant-loop decreases-loop
+returns_2 c = page_high _ (omega arith)
 
 element-copy-out-first : tie.Need-element-copy-out-first invariant-loop decreases-loop
 element-copy-out-first c = search rules
@@ -40,7 +40,7 @@ element-copy-out-if3 : tie.Need-element-copy-out-if3 invariant-loop decreases-lo
 element-copy-out-if3 c = search rules
 
 returns-3 : tie.Need-returns-3 invariant-loop decreases-loop
-returns-3 c = like-not c.before.before.loop.invariant outside (omega arith) (λ e. absurd (omega arith))
+returns-3 c = like_not c.before.before.loop.invariant outside (omega arith) (λ e. absurd (omega arith))
 
 add-i : tie.Need-overflow-add-i invariant-loop decreases-loop
 add-i c = search rules
@@ -49,10 +49,10 @@ loop-less : tie.Need-loop-smaller invariant-loop decreases-loop
 loop-less c = search rules
 
 loop-again : tie.Need-loop-preserved invariant-loop decreases-loop
-loop-again c = like-more c.before.before.loop.invariant outside (omega arith) (omega arith)
+loop-again c = like_more c.before.before.loop.invariant outside (omega arith) (omega arith)
 
 returns-4 : tie.Need-returns-4 invariant-loop decreases-loop
-returns-4 c = like-end c.before.loop.invariant (omega arith)
+returns-4 c = like_end c.before.loop.invariant (omega arith)
 
 pub is-page-spec : {M : Type 1} → statement M
 is-page-spec =
@@ -61,7 +61,7 @@ is-page-spec =
     invariant-loop
     decreases-loop
     returns
-    returns-2
+    returns_2
     element-copy-out-first
     loop-holds
     mul-if3

@@ -5,7 +5,7 @@ use Prim.Native.Nat.{◌-◌}
 use native.Mathlib.Omega.{arith}
 use mathlib.Core.Path.{◌∙◌}
 use Rattle.order.proofs.Numbers.{length_mapped}
-use Rattle.page.proofs.Pages.{ReadTo, read_start, read_more, read-refused-at, read-end}
+use Rattle.page.proofs.Pages.{ReadTo, read_start, read_more, read_refused_at, read_end}
 use Rattle.page.proofs.read_each.Statement.{statement}
 use Rattle.page.proofs.read_each.Tie as tie
 
@@ -48,7 +48,7 @@ returns c =
     let a = o.before.before.before in
     let l = a.before.before in
     c.read-refused.ensures
-    ∙ read-refused-at l.before.loop.invariant (omega arith) a.read.result _ a.read.ensures o.outcome-of.result o.before.enum_told.given.1 o.outcome-of.ensures _ (omega arith)
+    ∙ read_refused_at l.before.loop.invariant (omega arith) a.read.result _ a.read.ensures o.outcome-of.result o.before.enum_told.given.1 o.outcome-of.ensures _ (omega arith)
 
 mul-symbols : tie.Need-overflow-mul-symbols invariant-loop decreases-loop
 mul-symbols c = search rules
@@ -68,8 +68,8 @@ loop-again c =
     let l = a.before.before in
     read_more l.before.loop.invariant (omega arith) a.read.result _ a.read.ensures c.before.answer.given.1
 
-returns-2 : tie.Need-returns-2 invariant-loop decreases-loop
-returns-2 c = read-end c.before.loop.invariant (omega arith)
+returns_2 : tie.Need-returns-2 invariant-loop decreases-loop
+returns_2 c = read_end c.before.loop.invariant (omega arith)
 
 pub read-each-spec : {M : Type 1} → statement M
 read-each-spec =
@@ -92,4 +92,4 @@ read-each-spec =
     add-i
     loop-less
     loop-again
-    returns-2)
+    returns_2)

@@ -19,10 +19,10 @@ returns c = c.read-refused.ensures ∙ read_not _ (sym c.before.before.is-page.e
 read-each-requires : tie.Need-read-each-requires
 read-each-requires c κs = sym c.before.is-page.ensures ∙ not-false _ c.if1.false
 
-returns-2 : tie.Need-returns-2
-returns-2 c = search rules
+returns_2 : tie.Need-returns-2
+returns_2 c = search rules
 
 pub read-page-spec : {M : Type 1} → statement M
 read-page-spec =
     tie.close
-    (tie.spec is-page-requires read-refused-requires returns read-each-requires returns-2)
+    (tie.spec is-page-requires read-refused-requires returns read-each-requires returns_2)

@@ -6,7 +6,7 @@ use native.Mathlib.Omega.{arith}
 use mathlib.Core.Path.{◌≡◌, refl, ◌∙◌}
 use lib.ListN.{length}
 use Rattle.order.proofs.Numbers.{length_mapped}
-use Rattle.page_store.proofs.Storing.{StoredTo, store_start, pulses-low, store-more, store-refused-at, store-end}
+use Rattle.page_store.proofs.Storing.{StoredTo, store_start, pulses_low, store_more, store_refused_at, store_end}
 use Rattle.page_store.proofs.store_each.Statement.{statement}
 use Rattle.page_store.proofs.store_each.Tie as tie
 
@@ -50,7 +50,7 @@ returns : tie.Need-returns invariant-loop decreases-loop
 returns c =
     let a = c.before.before.before in
     let l = a.before.before.before in
-    c.store-refused.ensures ∙ store-refused-at l.before.loop.invariant (omega arith) a.store.result _ a.store.ensures c.before.enum-told2.given.1 _ _ refl (omega arith)
+    c.store-refused.ensures ∙ store_refused_at l.before.loop.invariant (omega arith) a.store.result _ a.store.ensures c.before.enum-told2.given.1 _ _ refl (omega arith)
 
 mul-groups : tie.Need-overflow-mul-groups invariant-loop decreases-loop
 mul-groups c = search rules
@@ -66,7 +66,7 @@ add-pulses : tie.Need-overflow-add-pulses invariant-loop decreases-loop
 add-pulses c =
     let a = c.before.before.before.before in
     let l = a.before.before.before in
-    omega (arith, pulses-low l.before.loop.invariant (omega arith) a.store.result _ a.store.ensures (twelve c))
+    omega (arith, pulses_low l.before.loop.invariant (omega arith) a.store.result _ a.store.ensures (twelve c))
 
 add-i : tie.Need-overflow-add-i invariant-loop decreases-loop
 add-i c = search rules
@@ -78,10 +78,10 @@ loop-again : tie.Need-loop-preserved invariant-loop decreases-loop
 loop-again c =
     let a = c.before.before.before.before in
     let l = a.before.before.before in
-    store-more l.before.loop.invariant (omega arith) a.store.result _ a.store.ensures (twelve c) c.before.before.enum_told.given.1 _ (omega arith)
+    store_more l.before.loop.invariant (omega arith) a.store.result _ a.store.ensures (twelve c) c.before.before.enum_told.given.1 _ (omega arith)
 
-returns-2 : tie.Need-returns-2 invariant-loop decreases-loop
-returns-2 c = store-end c.before.loop.invariant (omega arith)
+returns_2 : tie.Need-returns-2 invariant-loop decreases-loop
+returns_2 c = store_end c.before.loop.invariant (omega arith)
 
 pub store-each-spec : {M : Type 1} → statement M
 store-each-spec =
@@ -106,4 +106,4 @@ store-each-spec =
     add-i
     loop-less
     loop-again
-    returns-2)
+    returns_2)

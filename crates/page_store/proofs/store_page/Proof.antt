@@ -20,8 +20,8 @@ returns c = c.store-refused.ensures ∙ store_not _ _ (not_taken _ _ (sym c.befo
 store-refused-requires-2 : tie.Need-store-refused-requires-2
 store-refused-requires-2 c κs = search rules
 
-returns-2 : tie.Need-returns-2
-returns-2 c = c.store-refused2.ensures ∙ store_not _ _ (other_length _ _ (λ e. absurd (omega arith)))
+returns_2 : tie.Need-returns-2
+returns_2 c = c.store-refused2.ensures ∙ store_not _ _ (other_length _ _ (λ e. absurd (omega arith)))
 
 store-each-requires : tie.Need-store-each-requires
 store-each-requires c κs = let e = c.before.before in is_taken _ _ (sym e.before.is-page.ensures ∙ not-false _ e.if1.false) (omega arith)
@@ -37,6 +37,6 @@ store-page-spec =
     store-refused-requires
     returns
     store-refused-requires-2
-    returns-2
+    returns_2
     store-each-requires
     returns-3)

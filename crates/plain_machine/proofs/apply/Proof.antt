@@ -22,8 +22,8 @@ returns c =
     let k = w.before in
     c.from-written.ensures ∙ ap (λ (t : Told Program). after_program t 0) w.write.ensures ∙ by_kind _ _ _ k.enum_told.given.1
 
-returns-2 : tie.Need-returns-2
-returns-2 c =
+returns_2 : tie.Need-returns-2
+returns_2 c =
     let w = c.before in
     let k = w.before.before in
     c.from-written2.ensures ∙ ap (λ (t : Told Program). after_program t 0) w.write-with-room.ensures ∙ by_kind _ _ _ k.kind.given.1
@@ -108,7 +108,7 @@ apply-spec =
     (λ c κs. search rules)
     (λ c κs. search rules)
     returns
-    returns-2
+    returns_2
     returns-3
     returns-4
     returns-5

@@ -50,8 +50,8 @@ use Rattle.push_list.specs.LentWrite.{filled}
 use Rattle.push_up.specs.declared.Push.{Push}
 use Rattle.push_list.proofs.Arrays.{slot_apart, slot_whole}
 use Rattle.push_list.proofs.Filled.{filled_next, length_filled}
-use Rattle.push_list.proofs.Walking.{local, local-field, sets, whiles, free-cell, free-room}
-use Rattle.push_list.proofs.Pushes.{R, Pushes, pushes, spelled, tells, makes, typed, all_typed, last-shown}
+use Rattle.push_list.proofs.Walking.{local, local_field, sets, whiles, free_cell, free_room}
+use Rattle.push_list.proofs.Pushes.{R, Pushes, pushes, spelled, tells, makes, typed, all_typed, last_shown}
 use Rattle.push_up.proofs.Push.TheLaws as Push'
 use Rattle.push_list.specs.contracts.fill.Key.{name as #fill}
 use Rattle.push_list.specs.contracts.fill as f
@@ -117,7 +117,7 @@ module _ {M : Type 1} {𝓤 : Ura M} (𝓛 : Logic 𝓤) (mem : Memory → SProp
       suffices ! _ (ends_at 𝓛 f.ended stayed (f.clauses 𝓛 mem run) (((κ, tt), (q, tt), tt, a, vals), tt) vunit tt
       (front count, (tt, (tt, tt))) (long count (omega arith), (tt, (tt, tt)))) $
       says ! refl $ nothing ! $ move ! (2 ∷ 0 ∷ []) $ join ! $ frame ! $
-      use1 𝓛 (‵ (finally R γ (front count))) (last-shown 𝓛 κ γ (front count)) $
+      use1 𝓛 (‵ (finally R γ (front count))) (last_shown 𝓛 κ γ (front count)) $
       nothing ! $ nothing ! $ fjoin ! $ nothing ! $ fjoin ! $ move ! (1 ∷ 0 ∷ []) $ fjoin ! $ feq_i ! (List Val) (vunit ∷ []) (vunit ∷ []) refl $ move ! (1 ∷ 0 ∷ []) $ done !
 
   abbrev Upto : Type 0
@@ -126,8 +126,8 @@ module _ {M : Type 1} {𝓤 : Ura M} (𝓛 : Logic 𝓤) (mem : Memory → SProp
   abbrev Nearer : Upto → Upto → Type 0
   Nearer j i = count - j.0 < count - i.0
 
-  nearer-wf : WellFounded Nearer
-  nearer-wf = InvImage.wf (λ (i : Upto). count - i.0) lt-wf_rel.wf
+  nearer_wf : WellFounded Nearer
+  nearer_wf = InvImage.wf (λ (i : Upto). count - i.0) lt-wf_rel.wf
 
   module _ (𝓣 : Tables 𝓤 H) (l₀ l₁ l₂ l₃ l₄ l₅ l₆ l₇ l₈ l₉ l₁₀ l₁₁ l₁₂ : ℕ) where
     abbrev C : Calls 𝓤 H
@@ -170,12 +170,12 @@ module _ {M : Type 1} {𝓤 : Ura M} (𝓛 : Logic 𝓤) (mem : Memory → SProp
         elem_back ! R full_share xs i.0 any (spelled item) l₄ 0 (in_array less) $ move ! (1 ∷ []) $
         -- the list's place
         sets ! 7 refl (bin ! (local ! 19 refl) (lit ! tt) (record { fits = scaled less })) (tt, record { fits = scaled less }) $
-        sets ! 5 refl (bin ! (local-field ! 26 refl (sub ! 0 refl (whole !))) (local ! 7 refl) tt) (tt, tt) $
+        sets ! 5 refl (bin ! (local_field ! 26 refl (sub ! 0 refl (whole !))) (local ! 7 refl) tt) (tt, tt) $
         rewrite ! 5 (λ (p : ℕ). ‵ (fat full_share ty_ptr l₁₂ 0 (vptr b p))) (sym (place_is stride o i.0)) refl $
-        elem_out ! R (Is R) (shows 𝓛 R) spelled tells full_share (front i.0) i.0 any b o (in-front less) (λ _.
+        elem_out ! R (Is R) (shows 𝓛 R) spelled tells full_share (front i.0) i.0 any b o (in_front less) (λ _.
         assigns ! (of_opd ! (local ! 11 refl)) (from ! (hop ! (look ! 7 refl) (stop !))) (store_raw ! 0 refl (typed 𝓛 item _ is-push)) $
         move ! (1 ∷ []) $ drop ! $ owned ! R (Is R) (makes 𝓛) item (spelled item) is-push $ move ! (1 ∷ 0 ∷ []) $
-        elem_put ! R full_share (front i.0) i.0 item (spelled item) b o (in-front less) $
+        elem_put ! R full_share (front i.0) i.0 item (spelled item) b o (in_front less) $
         rewrite ! 0 (λ (zs : List Push). ‵ (row R full_share zs b o)) (filled_next xs ys i.0 any (in_array less) (in_ys less) ∙ ap front (sym (add-one i.0))) refl $
         assigns_last ! (bin ! (local ! 19 refl) (lit ! tt) (record { fits = next_fits less })) (from ! (stop !)) (store ! 19 refl (tt, record { fits = next_fits less })) $
         forget ! 5 refl $ forget ! 7 refl $ forget ! 9 refl $ forget ! 11 refl $ forget ! 13 refl $ forget ! 15 refl $ forget ! 17 refl $
@@ -184,9 +184,9 @@ module _ {M : Type 1} {𝓤 : Ura M} (𝓛 : Logic 𝓤) (mem : Memory → SProp
         -- [obs; the borrow; the token; the array's row; _12; …; _5; …; (_4's right to be freed); _3; …; _2; …; _1; …; room for _0; …]
         move ! (3 ∷ []) $ use1 𝓛 (‵ (fat full_share array l₄ 0 v)) (slot_whole 𝓛 R 11 xs l₄ spelled tells v is) $
         sets ! 27 refl (of_opd ! (unit_lit !)) (tt, tt) $
-        returns ! (look ! 27 refl) $ free-cell ! 27 refl refl $ free-cell ! 25 refl refl $ free-cell ! 23 refl refl $ free-cell ! 21 refl refl $
-        forget ! 0 refl $ move ! (0 ∷ 20 ∷ []) $ free1 ! $ free-cell ! 17 refl refl $ free-cell ! 15 refl refl $ free-room ! 13 refl refl $ free-room ! 11 refl refl $
-        free-room ! 9 refl refl $ free-room ! 7 refl refl $ free-room ! 5 refl refl $ free-room ! 3 refl refl $ free0 ! $
+        returns ! (look ! 27 refl) $ free_cell ! 27 refl refl $ free_cell ! 25 refl refl $ free_cell ! 23 refl refl $ free_cell ! 21 refl refl $
+        forget ! 0 refl $ move ! (0 ∷ 20 ∷ []) $ free1 ! $ free_cell ! 17 refl refl $ free_cell ! 15 refl refl $ free_room ! 13 refl refl $ free_room ! 11 refl refl $
+        free_room ! 9 refl refl $ free_room ! 7 refl refl $ free_room ! 5 refl refl $ free_room ! 3 refl refl $ free0 ! $
         rewrite ! 0 (λ (m : ℕ). ‵ (fobs γ ((coded_holeys R).code (heres R (front m))))) (le_antisymm i.1 (nltb→le i.0 count over)) refl $ keep ! (0 ∷ 2 ∷ []) $ by ! exits)
       where
         item : Push
@@ -201,8 +201,8 @@ module _ {M : Type 1} {𝓤 : Ura M} (𝓛 : Logic 𝓤) (mem : Memory → SProp
         in_ys : T (ltb i.0 count) → i.0 < length ys
         in_ys less = omega (arith, inside less, in_list)
 
-        in-front : T (ltb i.0 count) → i.0 < length (front i.0)
-        in-front less = subst (λ (n : ℕ). i.0 < n) (sym (long i.0 i.1)) (in_ys less)
+        in_front : T (ltb i.0 count) → i.0 < length (front i.0)
+        in_front less = subst (λ (n : ℕ). i.0 < n) (sym (long i.0 i.1)) (in_ys less)
 
         next : T (ltb i.0 count) → Upto
         next less = (i.0 + 1, add-one-le (inside less))
@@ -228,7 +228,7 @@ module _ {M : Type 1} {𝓤 : Ura M} (𝓛 : Logic 𝓤) (mem : Memory → SProp
       move ! (27 ∷ []) $ fsplit ! $ fsplit ! $ drop ! $ fsplit ! $ move ! (29 ∷ []) $ split ! $ move ! (2 ∷ 3 ∷ 0 ∷ []) $ opens_slice ! tt R ys b o $
       -- [the list's row; the open borrow; obs; auth; true; what the other parameters own; the array's row; _12; …]
       move ! (4 ∷ 5 ∷ []) $ drop ! $ drop ! $ move ! (0 ∷ 4 ∷ []) $
-      first ! $ blocks ! $ loops ! 𝓣 Nearer nearer-wf (At 𝓣 l₀ l₁ l₂ l₃ l₄ l₅ l₆ l₇ l₈ l₉ l₁₀ l₁₁ l₁₂) (turns 𝓣 l₀ l₁ l₂ l₃ l₄ l₅ l₆ l₇ l₈ l₉ l₁₀ l₁₁ l₁₂) (0, zero-le))))))))))))))
+      first ! $ blocks ! $ loops ! 𝓣 Nearer nearer_wf (At 𝓣 l₀ l₁ l₂ l₃ l₄ l₅ l₆ l₇ l₈ l₉ l₁₀ l₁₁ l₁₂) (turns 𝓣 l₀ l₁ l₂ l₃ l₄ l₅ l₆ l₇ l₈ l₉ l₁₀ l₁₁ l₁₂) (0, zero-le))))))))))))))
     where
       count_fits : count < 2 ^ 64
       count_fits = omega (arith, in-items)

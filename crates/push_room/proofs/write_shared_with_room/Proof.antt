@@ -3,9 +3,9 @@
 use borrow.Author.Rules.{rules}
 use mathlib.Core.Path.{sym, ◌∙◌}
 use mathlib.Core.List.{[]}
-use Rattle.order.proofs.Refusals.{accepted, passed_on, outcome-first}
+use Rattle.order.proofs.Refusals.{accepted, passed_on, outcome_first}
 use Rattle.push_room.specs.Room.{room_checks, write_shared_into_of}
-use Rattle.push_room.proofs.Roomy.{room-held, shared-into-written}
+use Rattle.push_room.proofs.Roomy.{room_held, shared_into_written}
 use Rattle.push_room.proofs.write_shared_with_room.Statement.{statement}
 use Rattle.push_room.proofs.write_shared_with_room.Tie as tie
 
@@ -14,14 +14,14 @@ unfolding write_shared_into_of
 returns c =
     let d = c.before.enum-told2.given.1 in
     let a = c.before.before.before.before.args in
-    c.unwritten.ensures ∙ passed_on _ _ _ _ (outcome-first _ (room_checks a.g a.room []) c.before.before.before.check-room.ensures d) _ d
+    c.unwritten.ensures ∙ passed_on _ _ _ _ (outcome_first _ (room_checks a.g a.room []) c.before.before.before.check-room.ensures d) _ d
 
-returns-2 : tie.Need-returns-2
-returns-2 c =
+returns_2 : tie.Need-returns-2
+returns_2 c =
     let d = c.before.before.before in
     let a = d.before.args in
-    let (passed, enough, held) = room-held a.g a.room [] (accepted d.check-room.ensures c.before.enum_told.given.1) in
-    c.write-shared.ensures ∙ sym (shared-into-written a.g a.room a.target enough)
+    let (passed, enough, held) = room_held a.g a.room [] (accepted d.check-room.ensures c.before.enum_told.given.1) in
+    c.write-shared.ensures ∙ sym (shared_into_written a.g a.room a.target enough)
 
 pub write-shared-with-room-spec : {M : Type 1} → statement M
 write-shared-with-room-spec =
@@ -33,4 +33,4 @@ write-shared-with-room-spec =
     (λ c κs. search rules)
     returns
     (λ c κs. search rules)
-    returns-2)
+    returns_2)

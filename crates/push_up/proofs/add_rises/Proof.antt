@@ -8,7 +8,7 @@ use Rattle.group.proofs.Checks.{endurance_most}
 use Rattle.group.proofs.TopBit.{low}
 use Rattle.push_up.specs.declared.Tallies.{Tallies}
 use Rattle.push_up.specs.WriteAnswer.{endures, tallies_of}
-use Rattle.push_up.proofs.Rises.{Adding, adding-none, adding-more, adding-lasts, adding-all}
+use Rattle.push_up.proofs.Rises.{Adding, adding_none, adding_more, adding_lasts, adding_all}
 use Rattle.push_up.proofs.add_rises.Statement.{statement}
 use Rattle.push_up.proofs.add_rises.Tie as tie
 
@@ -23,7 +23,7 @@ twelve : (c : tie.Start invariant-loop decreases-loop) → (length c.args.t1 ≡
 twelve c = (search rules, search rules, search rules)
 
 loop-holds : tie.Need-loop-init invariant-loop decreases-loop
-loop-holds c = λ r. adding-none _ _ _ _
+loop-holds c = λ r. adding_none _ _ _ _
 
 loop-again : tie.Need-loop-preserved invariant-loop decreases-loop
 loop-again c =
@@ -35,7 +35,7 @@ loop-again c =
     let used : Fits w32 (get_or a.t1 l.loop.i 0) = search rules in
     let sixteen : Fits w16 c.before.before.excess.result = search rules in
     let rest : Fits w32 c.wrapping-sub-u32.result = search rules in
-    adding-more a.endurance a.t1 a.t2 a.t3 (l.loop.invariant r) c.before.wrapping-add-u32.result c.wrapping-sub-u32.result (omega (arith, endurance_most a.endurance r)) used.fits
+    adding_more a.endurance a.t1 a.t2 a.t3 (l.loop.invariant r) c.before.wrapping-add-u32.result c.wrapping-sub-u32.result (omega (arith, endurance_most a.endurance r)) used.fits
     (rw rise at sixteen.fits)
     (rw rise at c.before.wrapping-add-u32.ensures) rest.fits c.wrapping-sub-u32.ensures (omega (arith, long)) (omega (arith, long)) (omega (arith, long))
 
@@ -44,7 +44,7 @@ tested : (c : tie.After-loop invariant-loop decreases-loop) → let a = c.before
     is_endurance a.endurance ≡ true → leb c.before.loop.over low ≡ endures a.endurance a.t1 a.t2 a.t3
 tested c r =
     let a = c.before.before.args in
-    adding-lasts a.endurance a.t1 a.t2 a.t3 (c.before.loop.invariant r) (omega (arith, twelve c.before.before))
+    adding_lasts a.endurance a.t1 a.t2 a.t3 (c.before.loop.invariant r) (omega (arith, twelve c.before.before))
 
 returns : tie.Need-returns invariant-loop decreases-loop
 unfolding tallies_of
@@ -57,9 +57,9 @@ returns c = by (is_endurance c.before.before.before.args.endurance) refl
     by false r = refl
     by true r = rw (sym (tested c.before r) ∙ lt-leb c.before.before.loop.over low (omega arith))
 
-returns-2 : tie.Need-returns-2 invariant-loop decreases-loop
+returns_2 : tie.Need-returns-2 invariant-loop decreases-loop
 unfolding tallies_of
-returns-2 c = sym (rw (sym c.before.is-endurance.ensures ∙ not-true _ c.if2.true))
+returns_2 c = sym (rw (sym c.before.is-endurance.ensures ∙ not-true _ c.if2.true))
 
 returns-3 : tie.Need-returns-3 invariant-loop decreases-loop
 unfolding tallies_of
@@ -68,7 +68,7 @@ returns-3 c =
     let end = c.before.before.before in
     let a = end.before.before.args in
     let none = le-leb end.before.loop.over low (omega arith) in
-    rw (ranged, ← tested end ranged, none, adding-all a.endurance a.t1 a.t2 a.t3 (end.before.loop.invariant ranged) (omega (arith, twelve end.before.before)) none)
+    rw (ranged, ← tested end ranged, none, adding_all a.endurance a.t1 a.t2 a.t3 (end.before.loop.invariant ranged) (omega (arith, twelve end.before.before)) none)
 
 pub add-rises-spec : {M : Type 1} → statement M
 add-rises-spec =
@@ -96,5 +96,5 @@ add-rises-spec =
     loop-again
     returns
     (λ c κs. search rules)
-    returns-2
+    returns_2
     returns-3)

@@ -8,9 +8,9 @@ use Rattle.order.specs.declared.Refusal.TheVariants.{Size, NoOrder}
 use Rattle.order.specs.Refusals.{is_size}
 use Rattle.order.specs.Cells.{is_order}
 use Rattle.order.specs.Order.{is_order_of}
-use Rattle.order.proofs.Refusals.{check-fails, check-holds, all_hold, told-refused, told-done, size_true}
+use Rattle.order.proofs.Refusals.{check_fails, check_holds, all_hold, told_refused, told_done, size_true}
 use Rattle.order.proofs.Numbers.{length_mapped}
-use Rattle.order.proofs.Check.{by-listed, not_listed}
+use Rattle.order.proofs.Check.{by_listed, not_listed}
 use Rattle.ranks.specs.Ranks.{ranked, order_of_ranks}
 use Rattle.ranks.proofs.Determine.{ranks_order}
 use Rattle.ranks.proofs.from_ranks.Statement.{statement}
@@ -19,7 +19,7 @@ use Rattle.ranks.proofs.from_ranks.Tie as tie
 returns : tie.Need-returns
 unfolding order_of_ranks
 returns c =
-    c.no-order.ensures ∙ told-refused _ _ _ Size (check-fails _ _ (sym c.before.before.is-size.ensures ∙ not-true _ c.before.if1.true))
+    c.no-order.ensures ∙ told_refused _ _ _ Size (check_fails _ _ (sym c.before.before.is-size.ensures ∙ not-true _ c.before.if1.true))
 
 -- the size has passed
 sized : (c : tie.Else1) → is_size c.before.before.args.r.len ≡ true
@@ -33,12 +33,12 @@ tested : (c : tie.After-is-order) → let r = c.before.before.before.before.args
 tested c =
     c.is-order.ensures ∙ ap (is_order_of _) c.before.cells-by-sweep.ensures ∙ ranks_order _ (search length_mapped) (sized c.before.before)
 
-returns-2 : tie.Need-returns-2
+returns_2 : tie.Need-returns-2
 unfolding order_of_ranks
-returns-2 c =
+returns_2 c =
     let d = c.before.before in
     c.no-order2.ensures
-    ∙ told-refused _ _ _ NoOrder (check-holds _ _ (sized d.before.before) ∙ check-fails _ _ (sym (not_listed _ _ _ refl (sym (tested d) ∙ not-true _ c.before.if2.true))))
+    ∙ told_refused _ _ _ NoOrder (check_holds _ _ (sized d.before.before) ∙ check_fails _ _ (sym (not_listed _ _ _ refl (sym (tested d) ∙ not-true _ c.before.if2.true))))
 
 ranks-are-clear-past-requires : tie.Need-ranks-are-clear-past-requires
 ranks-are-clear-past-requires c κs = (size_true _ (sized c.before.before.before)).1
@@ -52,14 +52,14 @@ unfolding order_of_ranks
 returns-3 c =
     let d = c.before.before in
     c.no-order3.ensures
-    ∙ told-refused _ _ _ NoOrder (check-holds _ _ (sized d.before.before.before.before) ∙ check-fails _ _ (sym (by-listed _ _ _ refl (listed d.before)) ∙ sym d.ranks-are-clear-past.ensures ∙ not-true _ c.before.if3.true))
+    ∙ told_refused _ _ _ NoOrder (check_holds _ _ (sized d.before.before.before.before) ∙ check_fails _ _ (sym (by_listed _ _ _ refl (listed d.before)) ∙ sym d.ranks-are-clear-past.ensures ∙ not-true _ c.before.if3.true))
 
 returns-4 : tie.Need-returns-4
 unfolding order_of_ranks
 returns-4 c =
     let d = c.before in
     rw d.before.before.before.cells-by-sweep.ensures
-    (told-done _ _ _ (check-holds _ _ (sized d.before.before.before.before) ∙ check-holds _ _ (sym (by-listed _ _ _ refl (listed d.before)) ∙ sym d.ranks-are-clear-past.ensures ∙ not-false _ c.if3.false) ∙ all_hold))
+    (told_done _ _ _ (check_holds _ _ (sized d.before.before.before.before) ∙ check_holds _ _ (sym (by_listed _ _ _ refl (listed d.before)) ∙ sym d.ranks-are-clear-past.ensures ∙ not-false _ c.if3.false) ∙ all_hold))
 
 pub from-ranks-spec : {M : Type 1} → statement M
 from-ranks-spec =
@@ -71,7 +71,7 @@ from-ranks-spec =
     cells-by-sweep-requires
     (λ c κs. search rules)
     (λ c κs. search rules)
-    returns-2
+    returns_2
     ranks-are-clear-past-requires
     (λ c κs. search rules)
     returns-3

@@ -8,7 +8,7 @@ use Rattle.order.specs.Order.{cell_numbers}
 use Rattle.ranks.specs.Ranks.{ranks_of}
 use Rattle.order.proofs.Numbers.{length_mapped, length_places, place_at}
 use Rattle.ranks.proofs.RankNumbers.{rank}
-use Rattle.ranks.proofs.Ranking.{Placed, placed_none, placed-low, placed-high, placed-order, placed_all}
+use Rattle.ranks.proofs.Ranking.{Placed, placed_none, placed_low, placed_high, placed_order, placed_all}
 use Rattle.order.proofs.Cells.{order_true}
 use Rattle.order.proofs.Sweep.{Turn}
 use Rattle.ranks.proofs.ranks_by_sweep.Statement.{statement}
@@ -35,7 +35,7 @@ bounds : (c : tie.After-number invariant-loop decreases-loop) →
 bounds c =
     let o = order_true _ _ c.before.before.before.before.requires.1 in
     let down = c.before.before.before.loop.invariant.down in
-    (omega arith, omega (arith, down.left, down.small), placed-low rank (turn c) o, placed-high rank (turn c) o)
+    (omega arith, omega (arith, down.left, down.small), placed_low rank (turn c) o, placed_high rank (turn c) o)
 
 loop-holds : tie.Need-loop-init invariant-loop decreases-loop
 loop-holds c = placed_none rank _ _ (length_places _ (search length_mapped)) c.requires.0
@@ -50,7 +50,7 @@ array-set-from-ranks : tie.Need-array-set-from-ranks invariant-loop decreases-lo
 array-set-from-ranks c = omega (arith, bounds c)
 
 loop-again : tie.Need-loop-preserved invariant-loop decreases-loop
-loop-again c = placed-order rank (turn c) (order_true _ _ c.before.before.before.before.requires.1) (omega arith) (omega arith)
+loop-again c = placed_order rank (turn c) (order_true _ _ c.before.before.before.before.requires.1) (omega arith) (omega arith)
 
 returns : tie.Need-returns invariant-loop decreases-loop
 unfolding ranks_of

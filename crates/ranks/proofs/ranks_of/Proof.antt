@@ -1,8 +1,8 @@
 -- `ranks::ranks_of` meets its contract.
 -- Assumes nothing.
 use borrow.Author.Rules.{rules}
-use Rattle.order.proofs.Refusals.{accepted, passed_on, told-done}
-use Rattle.order.proofs.Records.{passed, passed-listed}
+use Rattle.order.proofs.Refusals.{accepted, passed_on, told_done}
+use Rattle.order.proofs.Records.{passed, passed_listed}
 use Rattle.ranks.specs.Ranks.{ranks_of_order}
 use Rattle.ranks.proofs.ranks_of.Statement.{statement}
 use Rattle.ranks.proofs.ranks_of.Tie as tie
@@ -16,13 +16,13 @@ returns c =
 ranks-by-sweep-requires : tie.Need-ranks-by-sweep-requires
 ranks-by-sweep-requires c κs =
     let d = accepted c.before.before.check-order.ensures c.enum_told.given.1 in
-    ((passed _ d).1, passed-listed _ d)
+    ((passed _ d).1, passed_listed _ d)
 
-returns-2 : tie.Need-returns-2
+returns_2 : tie.Need-returns-2
 unfolding ranks_of_order
-returns-2 c =
+returns_2 c =
     rw c.ranks-by-sweep.ensures
-    (told-done _ _ _ (accepted c.before.before.before.check-order.ensures c.before.enum_told.given.1))
+    (told_done _ _ _ (accepted c.before.before.before.check-order.ensures c.before.enum_told.given.1))
 
 pub ranks-of-spec : {M : Type 1} → statement M
 ranks-of-spec =
@@ -34,4 +34,4 @@ ranks-of-spec =
     (λ c κs. search rules)
     returns
     ranks-by-sweep-requires
-    returns-2)
+    returns_2)

@@ -29,11 +29,11 @@ returns c =
     let k = c.before in
     c.alone.ensures ∙ taken _ _ _ k.before.before.before.«open».ensures k.enum_told.given.1
 
-returns-2 : tie.Need-returns-2
-returns-2 c =
+returns_2 : tie.Need-returns-2
+returns_2 c =
     let k = c.before in
     let told = k.enum-told2.given in
     c.alone2.ensures ∙ kept _ _ _ k.before.before.before.«open».ensures told.0.0 told.1
 
 pub open_spec : {M : Type 1} → statement M
-open_spec = tie.close (tie.spec (λ c κs. search rules) (λ c. search rules) (λ c κs. search rules) returns (λ c. search rules) (λ c κs. search rules) returns-2)
+open_spec = tie.close (tie.spec (λ c κs. search rules) (λ c. search rules) (λ c κs. search rules) returns (λ c. search rules) (λ c κs. search rules) returns_2)

@@ -26,8 +26,8 @@ returns c = rw (sym c.before.unused-zero.ensures ∙ not-true _ c.if1.true) refl
 zeros : (c : tie.After-cell) → unused_zero c.before.before.before.args.r ≡ true
 zeros c = sym c.before.before.unused-zero.ensures ∙ not-false _ c.before.if1.false
 
-returns-2 : tie.Need-returns-2
-returns-2 c = by_kind _ 0 (zeros c.before) c.match.keys1
+returns_2 : tie.Need-returns-2
+returns_2 c = by_kind _ 0 (zeros c.before) c.match.keys1
 
 returns-3 : tie.Need-returns-3
 returns-3 c = by_kind _ 1 (zeros c.before) c.match.keys2
@@ -59,4 +59,4 @@ returns-9 c =
 pub request-of-spec : {M : Type 1} → statement M
 request-of-spec =
     tie.close
-    (tie.spec (λ c κs. search rules) returns returns-2 returns-3 returns-4 returns-5 returns-6 returns-7 returns-8 returns-9)
+    (tie.spec (λ c κs. search rules) returns returns_2 returns-3 returns-4 returns-5 returns-6 returns-7 returns-8 returns-9)

@@ -18,8 +18,8 @@ returns c =
     let k = c.before in
     c.alone.ensures ∙ by_request _ _ _ k.before.before.request-of.ensures k.enum_told.given.1
 
-returns-2 : tie.Need-returns-2
-returns-2 c =
+returns_2 : tie.Need-returns-2
+returns_2 c =
     let k = c.before.before in
     c.«open».ensures ∙ by_request _ _ _ k.before.before.request-of.ensures k.request.given.1
 
@@ -31,4 +31,4 @@ returns-3 c =
 pub step_spec : {M : Type 1} → statement M
 step_spec =
     tie.close
-    (tie.spec (λ c κs. search rules) (λ c. search rules) (λ c κs. search rules) (λ c. search rules) (λ c κs. search rules) (λ c. search rules) (λ c κs. search rules) returns returns-2 returns-3)
+    (tie.spec (λ c κs. search rules) (λ c. search rules) (λ c κs. search rules) (λ c. search rules) (λ c κs. search rules) (λ c. search rules) (λ c κs. search rules) returns returns_2 returns-3)

@@ -8,8 +8,8 @@ use Rattle.records.proofs.uses_cell.Tie as tie
 returns : tie.Need-returns
 returns c = rw c.if1.true
 
-returns-2 : tie.Need-returns-2
-returns-2 c = rw (ne_eqb _ _ c.if1.false) refl
+returns_2 : tie.Need-returns-2
+returns_2 c = rw (ne_eqb _ _ c.if1.false) refl
 
 pub uses-cell-spec : {M : Type 1} → statement M
-uses-cell-spec = tie.close (tie.spec returns returns-2)
+uses-cell-spec = tie.close (tie.spec returns returns_2)

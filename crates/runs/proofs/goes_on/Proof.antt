@@ -12,8 +12,8 @@ returns c =
     let t = c.before in
     rw (eq-eqb (t.before.args.size % 8) 0 (omega (arith, t.if1.true))) c.takes.ensures
 
-returns-2 : tie.Need-returns-2
-returns-2 c = rw (ne_eqb (c.before.args.size % 8) 0 c.if1.false)
+returns_2 : tie.Need-returns-2
+returns_2 c = rw (ne_eqb (c.before.args.size % 8) 0 c.if1.false)
 
 pub goes-on-spec : {M : Type 1} → statement M
-goes-on-spec = tie.close (tie.spec (λ c κs. search rules) returns returns-2)
+goes-on-spec = tie.close (tie.spec (λ c κs. search rules) returns returns_2)

@@ -7,8 +7,8 @@ use Rattle.runs.proofs.size_read.Tie as tie
 returns : tie.Need-returns
 returns c = omega (arith, c.if1.true)
 
-returns-2 : tie.Need-returns-2
-returns-2 c = omega (arith, c.if1.false)
+returns_2 : tie.Need-returns-2
+returns_2 c = omega (arith, c.if1.false)
 
 pub size-read-spec : {M : Type 1} → statement M
-size-read-spec = tie.close (tie.spec returns returns-2)
+size-read-spec = tie.close (tie.spec returns returns_2)

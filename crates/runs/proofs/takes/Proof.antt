@@ -16,8 +16,8 @@ returns c =
     let long : 65536 < 8 * args.position + args.size = omega (arith, c.if1.true) in
     rw (lt-leb (8 * args.position + args.size) 65536 long) refl
 
-returns-2 : tie.Need-returns-2
-returns-2 c = let args = c.before.before.args in rw (lt-leb (8 * args.position + args.size) 65536 (omega (arith, c.if2.true))) refl
+returns_2 : tie.Need-returns-2
+returns_2 c = let args = c.before.before.args in rw (lt-leb (8 * args.position + args.size) 65536 (omega (arith, c.if2.true))) refl
 
 returns-3 : tie.Need-returns-3
 returns-3 c =
@@ -33,4 +33,4 @@ returns-4 c =
     (ap (λ (k : ℕ). leb k args.space) same)
 
 pub takes-spec : {M : Type 1} → statement M
-takes-spec = tie.close (tie.spec returns (λ c. search rules) (λ c. search rules) returns-2 (λ c. search rules) returns-3 (λ c κs. search rules) returns-4)
+takes-spec = tie.close (tie.spec returns (λ c. search rules) (λ c. search rules) returns_2 (λ c. search rules) returns-3 (λ c κs. search rules) returns-4)

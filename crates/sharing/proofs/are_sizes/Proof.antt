@@ -8,7 +8,7 @@ use native.Mathlib.Nat.{zero-add}
 use native.Mathlib.Omega.{arith}
 use lib.ListN.{length, get_or, drop}
 use Rattle.sharing.specs.Shared.{is_sizes}
-use Rattle.sharing.proofs.Loops.{sizes_left, left-next, left-stop, left_end}
+use Rattle.sharing.proofs.Loops.{sizes_left, left_next, left_stop, left_end}
 use Rattle.sharing.proofs.are_sizes.Statement.{statement}
 use Rattle.sharing.proofs.are_sizes.Tie as tie
 
@@ -34,12 +34,12 @@ loop-holds c =
     let all : t.count - 0 ≡ t.count = omega arith in
     (omega arith, omega arith, rw (le-leb t.count 12 (omega (arith, c.if1.false)), all, zero-add))
 
-returns-2 : tie.Need-returns-2 invariant-loop decreases-loop
-returns-2 c =
+returns_2 : tie.Need-returns-2 invariant-loop decreases-loop
+returns_2 c =
     let d = c.before in
     let at = d.before.before.before in
     let a = at.before.before.args in
-    sym (left-stop a.t2.count at.loop.total a.n at.loop.i a.t2.sizes (inside d) (sym d.is-place.ensures.0 ∙ not-true _ c.if2.true)) ∙ at.loop.invariant.2
+    sym (left_stop a.t2.count at.loop.total a.n at.loop.i a.t2.sizes (inside d) (sym d.is-place.ensures.0 ∙ not-true _ c.if2.true)) ∙ at.loop.invariant.2
 
 -- the size there is a byte
 byte : (c : tie.After-is-place invariant-loop decreases-loop) → let at = c.before.before.before in get_or at.before.before.args.t2.sizes at.loop.i 0 < 256
@@ -55,7 +55,7 @@ loop-again c =
     let a = at.before.before.args in (
       search rules,
       omega (arith, byte d, at.loop.invariant.1),
-      left-next a.t2.count at.loop.total a.n at.loop.i a.t2.sizes (inside d) (sym d.is-place.ensures.0 ∙ not-false _ c.if2.false) ∙ at.loop.invariant.2,
+      left_next a.t2.count at.loop.total a.n at.loop.i a.t2.sizes (inside d) (sym d.is-place.ensures.0 ∙ not-false _ c.if2.false) ∙ at.loop.invariant.2,
     )
 
 returns-3 : tie.Need-returns-3 invariant-loop decreases-loop
@@ -75,7 +75,7 @@ are-sizes-spec =
     loop-holds
     (λ c. search rules)
     (λ c κs. search rules)
-    returns-2
+    returns_2
     (λ c. search rules)
     add_total
     (λ c. search rules)

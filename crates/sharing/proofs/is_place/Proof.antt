@@ -7,8 +7,8 @@ use Rattle.sharing.proofs.is_place.Tie as tie
 returns : tie.Need-returns
 returns c = (rw c.if1.true, search rules)
 
-returns-2 : tie.Need-returns-2
-returns-2 c = (rw c.if1.false, search rules)
+returns_2 : tie.Need-returns-2
+returns_2 c = (rw c.if1.false, search rules)
 
 pub is-place-spec : {M : Type 1} → statement M
-is-place-spec = tie.close (tie.spec returns returns-2)
+is-place-spec = tie.close (tie.spec returns returns_2)

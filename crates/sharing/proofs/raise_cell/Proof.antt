@@ -14,9 +14,9 @@ returns c =
     let a = d.before.before.before.before.args in
     rw (c.before.higher.ensures, d.number.ensures, lt-ltb a.level a.floor d.before.if1.true)
 
-returns-2 : tie.Need-returns-2
+returns_2 : tie.Need-returns-2
 unfolding cell_up
-returns-2 c =
+returns_2 c =
     let a = c.before.before.before.before.args in
     rw (c.higher2.ensures, le-ltb a.level a.floor c.before.if1.false)
 
@@ -39,4 +39,4 @@ raise-cell-spec =
     returns
     (λ c. search rules)
     (λ c κs. search rules)
-    returns-2)
+    returns_2)

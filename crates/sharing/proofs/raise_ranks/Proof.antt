@@ -9,7 +9,7 @@ use lib.Seq.{get_or-take}
 use Rattle.order.specs.Order.{listed}
 use Rattle.sharing.specs.Shared.{sizes_of}
 use Rattle.sharing.specs.Steps.{part, Flags}
-use Rattle.sharing.proofs.Loops.{Base, base-of, sizes-length, RaisedFrom, raised_none, size_fits, end-small, next-floor, next_fits, raised-more, raised_all}
+use Rattle.sharing.proofs.Loops.{Base, base_of, sizes_length, RaisedFrom, raised_none, size_fits, end_small, next_floor, next_fits, raised_more, raised_all}
 use Rattle.sharing.proofs.raise_ranks.Statement.{statement}
 use Rattle.sharing.proofs.raise_ranks.Tie as tie
 
@@ -23,10 +23,10 @@ decreases-loop old target cells n p₀ end₀ k₀ p end k = k
 base : (c : tie.Start invariant-loop decreases-loop) → let t = c.args.t1 in Base t.cells.len (sizes_of t) (listed t.cells) c.args.old
 base c =
     let t = c.args.t1 in
-    base-of t.cells.len t (listed t.cells) c.args.old c.requires.2 (search rules) c.requires.0 c.requires.1 (search rules) c.requires.3
+    base_of t.cells.len t (listed t.cells) c.args.old c.requires.2 (search rules) c.requires.0 c.requires.1 (search rules) c.requires.3
 
 counted : (c : tie.Start invariant-loop decreases-loop) → length (sizes_of c.args.t1) ≡ c.args.t1.count
-counted c = let t = c.args.t1 in sizes-length t.cells.len t (listed t.cells) c.args.old c.requires.2 (search rules)
+counted c = let t = c.args.t1 in sizes_length t.cells.len t (listed t.cells) c.args.old c.requires.2 (search rules)
 
 loop-holds : tie.Need-loop-init invariant-loop decreases-loop
 loop-holds c = rw c.zero-pushes.ensures (rw (counted c.before.before) at (raised_none (base c.before.before)))
@@ -49,7 +49,7 @@ on-rank-requires : tie.Need-on-rank-requires invariant-loop decreases-loop
 on-rank-requires c κs =
     let at = c.before.before in
     let pre = at.before.before.before.requires in
-    (pre.0, pre.1, omega arith, end-small at.loop.invariant c.before.loop-test.true)
+    (pre.0, pre.1, omega arith, end_small at.loop.invariant c.before.loop-test.true)
 
 -- its cells are marked
 marked : (c : tie.After-on-rank invariant-loop decreases-loop) →
@@ -63,14 +63,14 @@ raise-rank-requires c κs =
     let at = c.before.before.before in
     let pre = at.before.before.before.requires in
     let more = c.before.before.loop-test.true in
-    (pre.1, pre.3, next-floor at.loop.invariant more, next_fits at.loop.invariant more c.on-rank.result (marked c))
+    (pre.1, pre.3, next_floor at.loop.invariant more, next_fits at.loop.invariant more c.on-rank.result (marked c))
 
 loop-again : tie.Need-loop-preserved invariant-loop decreases-loop
 loop-again c =
     let d = c.before in
     let at = d.before.before.before in
     let more = d.before.before.loop-test.true in
-    rw (← sized at more) (raised-more at.loop.invariant more d.on-rank.result (marked d) c.raise-rank.ensures)
+    rw (← sized at more) (raised_more at.loop.invariant more d.on-rank.result (marked d) c.raise-rank.ensures)
 
 returns : tie.Need-returns invariant-loop decreases-loop
 returns c = raised_all c.before.loop.invariant c.loop-test.false

@@ -10,14 +10,14 @@ use Rattle.order.specs.declared.Refusal.{Refusal}
 use Rattle.order.specs.declared.Refusal.TheVariants.{NoOrder, Worn, RankSizes, Spent}
 use Rattle.order.specs.Refusals.{number_of}
 use Rattle.order.specs.Order.{is_order_of}
-use Rattle.order.proofs.Check.{order-parts}
-use Rattle.order.proofs.Refusals.{accepted, passed_on, told-refused, told-done, check-fails, check-holds, all_hold, outcome-first, later-decide}
+use Rattle.order.proofs.Check.{order_parts}
+use Rattle.order.proofs.Refusals.{accepted, passed_on, told_refused, told_done, check_fails, check_holds, all_hold, outcome_first, later_decide}
 use Rattle.group.specs.Levels.{at_most, tallied}
 use Rattle.group.specs.Record.{group_checks}
 use Rattle.push_up.specs.declared.PushUp.{PushUp}
 use Rattle.push_up.specs.WriteAnswer.{raised, fits, lasts, pushed, tallies_of}
 use Rattle.push_up.specs.Steps.{push_up_to}
-use Rattle.push_up.proofs.Writes.{checked_target, added-lasts, added-used}
+use Rattle.push_up.proofs.Writes.{checked_target, added_lasts, added_used}
 use Rattle.sharing.specs.Shared.{is_sizes, shared_target, write_shared_of}
 use Rattle.sharing.proofs.write_shared.Statement.{statement}
 use Rattle.sharing.proofs.write_shared.Tie as tie
@@ -27,20 +27,20 @@ unfolding write_shared_of
 returns c =
     let d = c.before.enum-told2.given.1 in
     let a = c.before.before.before.before.args in
-    c.unwritten.ensures ∙ passed_on _ _ _ _ (outcome-first _ (group_checks a.g) c.before.before.before.check.ensures d) _ d
+    c.unwritten.ensures ∙ passed_on _ _ _ _ (outcome_first _ (group_checks a.g) c.before.before.before.check.ensures d) _ d
 
 -- the record has passed
 passed : (c : tie.After-enum-told) → number_of (group_checks c.before.before.before.args.g) ≡ 0
 passed c = accepted c.before.before.check.ensures c.enum_told.given.1
 
-returns-2 : tie.Need-returns-2
+returns_2 : tie.Need-returns-2
 unfolding write_shared_of
-returns-2 c =
+returns_2 c =
     let d = c.before.before.before in
     c.unwritten2.ensures
-    ∙ told-refused _ _ _ RankSizes
-    (later-decide _ (group_checks d.before.before.before.args.g) (passed d)
-    ∙ check-fails _ _ (sym c.before.before.are-sizes.ensures ∙ not-true _ c.before.if1.true))
+    ∙ told_refused _ _ _ RankSizes
+    (later_decide _ (group_checks d.before.before.before.args.g) (passed d)
+    ∙ check_fails _ _ (sym c.before.before.are-sizes.ensures ∙ not-true _ c.before.if1.true))
 
 -- and so have the sizes
 sized : (c : tie.Else1) → let a = c.before.before.before.before.before.args in is_sizes a.g.n a.target ≡ true
@@ -59,16 +59,16 @@ returns-3 c =
     let s = sizes-left c.before.before in
     let d = s.before.before in
     c.unwritten3.ensures
-    ∙ told-refused _ _ _ NoOrder
-    (later-decide _ (group_checks d.before.before.before.args.g) (passed d) ∙ check-holds _ _ (sized s)
-    ∙ check-fails _ _ (sym c.before.before.is-order.ensures ∙ not-true _ c.before.if2.true))
+    ∙ told_refused _ _ _ NoOrder
+    (later_decide _ (group_checks d.before.before.before.args.g) (passed d) ∙ check_holds _ _ (sized s)
+    ∙ check_fails _ _ (sym c.before.before.is-order.ensures ∙ not-true _ c.before.if2.true))
 
 -- and the order
 ordered : (c : tie.Else2) → let a = (start c).args in is_order_of a.g.n a.target.cells ≡ true
 ordered c = sym c.before.is-order.ensures ∙ not-false _ c.if2.false
 
 as_long : (c : tie.Else2) → let a = (start c).args in a.target.cells.len ≡ a.g.n
-as_long c = let a = (start c).args in (order-parts a.g.n a.target.cells (ordered c)).1.long
+as_long c = let a = (start c).args in (order_parts a.g.n a.target.cells (ordered c)).1.long
 
 raise-ranks-requires : tie.Need-raise-ranks-requires
 raise-ranks-requires c κs =
@@ -100,13 +100,13 @@ before_worn : (c : tie.After-is-within) (later : List (Bool × Refusal)) →
 before_worn c later =
     let d = c.before.before.before.before.before in
     let s = sizes-left d.before in
-    later-decide _ (group_checks (start d).args.g) (passed s.before.before) ∙ check-holds _ _ (sized s) ∙ check-holds _ _ (ordered d)
+    later_decide _ (group_checks (start d).args.g) (passed s.before.before) ∙ check_holds _ _ (sized s) ∙ check_holds _ _ (ordered d)
 
 returns-4 : tie.Need-returns-4
 unfolding write_shared_of
 returns-4 c =
     let w = c.before.before in
-    c.unwritten4.ensures ∙ told-refused _ _ _ Worn (before_worn w _ ∙ check-fails _ _ (sym (tested w) ∙ not-true _ c.before.if3.true))
+    c.unwritten4.ensures ∙ told_refused _ _ _ Worn (before_worn w _ ∙ check_fails _ _ (sym (tested w) ∙ not-true _ c.before.if3.true))
 
 -- the levels have passed
 fitting : (c : tie.Else3) → let a = (start c.before.before.before.before.before.before).args in fits a.g (shared_target a.g.n a.target) ≡ true
@@ -132,7 +132,7 @@ lasting : (c : tie.After-add-rises) →
     lasts a.g (shared_target a.g.n a.target) ≡ c.add-rises.result.lasting
 lasting c =
     let a = (start c.before.before.before.before.before.before.before.before).args in
-    sym (added-lasts a.g (checked c) (shared_target a.g.n a.target) c.add-rises.result (added c))
+    sym (added_lasts a.g (checked c) (shared_target a.g.n a.target) c.add-rises.result (added c))
 
 summed : (c : tie.After-add-rises) →
     let a = (start c.before.before.before.before.before.before.before.before).args in
@@ -140,14 +140,14 @@ summed : (c : tie.After-add-rises) →
     lasts a.g t ≡ true → c.add-rises.result.used ≡ tallied a.g.used a.g.levels (raised a.g t)
 summed c =
     let a = (start c.before.before.before.before.before.before.before.before).args in
-    added-used a.g (checked c) (shared_target a.g.n a.target) c.add-rises.result (added c)
+    added_used a.g (checked c) (shared_target a.g.n a.target) c.add-rises.result (added c)
 
 returns-5 : tie.Need-returns-5
 unfolding write_shared_of
 returns-5 c =
     let s = c.before.before.before in
     let e = s.before.before in
-    c.unwritten5.ensures ∙ told-refused _ _ _ Spent (before_worn e.before _ ∙ check-holds _ _ (fitting e) ∙ check-fails _ _ (lasting s ∙ not-true _ c.before.if4.true))
+    c.unwritten5.ensures ∙ told_refused _ _ _ Spent (before_worn e.before _ ∙ check_holds _ _ (fitting e) ∙ check_fails _ _ (lasting s ∙ not-true _ c.before.if4.true))
 
 returns-6 : tie.Need-returns-6
 unfolding write_shared_of pushed raised push_up_to
@@ -157,7 +157,7 @@ returns-6 c =
     let w = e.before in
     let last = lasting s ∙ not-false _ c.before.before.if4.false in
     rw (summed s last, reckoned w.before.before)
-    (told-done _ _ _ (before_worn w _ ∙ check-holds _ _ (fitting e) ∙ check-holds _ _ last ∙ all_hold))
+    (told_done _ _ _ (before_worn w _ ∙ check_holds _ _ (fitting e) ∙ check_holds _ _ last ∙ all_hold))
 
 pub write-shared-spec : {M : Type 1} → statement M
 write-shared-spec =
@@ -170,7 +170,7 @@ write-shared-spec =
     returns
     (λ c κs. search rules)
     (λ c κs. search rules)
-    returns-2
+    returns_2
     (λ c κs. search rules)
     (λ c κs. search rules)
     returns-3

@@ -9,8 +9,8 @@ use Rattle.take_over.proofs.overrun.Tie as tie
 returns : tie.Need-returns
 returns c = refl
 
-returns-2 : tie.Need-returns-2
-returns-2 c = omega arith
+returns_2 : tie.Need-returns-2
+returns_2 c = omega arith
 
 pub overrun-spec : {M : Type 1} → statement M
-overrun-spec = tie.close (tie.spec (λ c. search rules) returns returns-2)
+overrun-spec = tie.close (tie.spec (λ c. search rules) returns returns_2)

@@ -29,8 +29,8 @@ loop-again c =
     let at = c.before.before.before.before in
     rw c.excess.ensures (placed_more at.loop.invariant (short at.before) (omega arith))
 
-returns-2 : tie.Need-returns-2 invariant-loop decreases-loop
-returns-2 c =
+returns_2 : tie.Need-returns-2 invariant-loop decreases-loop
+returns_2 c =
     let at = c.before in
     placed_row at.loop.invariant (short at.before) c.loop-test.false _ (omega (arith, at.before.if1.false))
 
@@ -52,4 +52,4 @@ row-of-spec =
     (λ c. search rules)
     (λ c. search rules)
     loop-again
-    returns-2)
+    returns_2)

@@ -10,7 +10,7 @@ use mathlib.Core.Logic.{⊎_elim}
 use Rattle.order.specs.declared.Refusal.TheVariants.{Size, Measurement, Endurance}
 use Rattle.order.specs.Refusals.{Told, is_size}
 use Rattle.order.proofs.Cells.{both}
-use Rattle.order.proofs.Refusals.{check-fails, check-holds, all_hold, told-refused, told-done, size_true}
+use Rattle.order.proofs.Refusals.{check_fails, check_holds, all_hold, told_refused, told_done, size_true}
 use Rattle.group.specs.declared.Group.{Group}
 use Rattle.group.specs.Record.{is_endurance, fresh, changed}
 use Rattle.take_over.specs.TakeOver.{is_given, take_over_of}
@@ -19,7 +19,7 @@ use Rattle.take_over.proofs.take_over.Tie as tie
 
 returns : tie.Need-returns
 unfolding take_over_of
-returns c = c.unmade.ensures ∙ told-refused _ _ _ Size (check-fails _ _ (sym c.before.before.is-size.ensures ∙ not-true _ c.before.if1.true))
+returns c = c.unmade.ensures ∙ told_refused _ _ _ Size (check_fails _ _ (sym c.before.before.is-size.ensures ∙ not-true _ c.before.if1.true))
 
 -- the size has passed
 sized : (c : tie.Else1) → is_size c.before.before.before.before.before.args.n ≡ true
@@ -33,11 +33,11 @@ row-of-requires-2 c κs = (size_true _ (sized c.before)).1
 
 -- an answer joined from two tests, of which the second is asked where the first holds
 module _ (p q : Bool) {x r : Bool} (first : x ≡ p) where
-  second-asked : {y : Bool} → y ≡ q → x ≡ true → r ≡ y → r ≡ (p && q)
-  second-asked second t e = e ∙ second ∙ ap (λ (b : Bool). b && q) (sym t ∙ first)
+  second_asked : {y : Bool} → y ≡ q → x ≡ true → r ≡ y → r ≡ (p && q)
+  second_asked second t e = e ∙ second ∙ ap (λ (b : Bool). b && q) (sym t ∙ first)
 
-  first-fails : x ≡ false → r ≡ x → r ≡ (p && q)
-  first-fails f e = e ∙ f ∙ ap (λ (b : Bool). b && q) (sym f ∙ first)
+  first_fails : x ≡ false → r ≡ x → r ≡ (p && q)
+  first_fails f e = e ∙ f ∙ ap (λ (b : Bool). b && q) (sym f ∙ first)
 
 -- whether both lists are measured
 measured : (c : tie.Joined2)
@@ -46,15 +46,15 @@ measured : (c : tie.Joined2)
 measured c =
     let levels = c.before.before.row_of.ensures.0 in
     let caps = c.before.row-of2.ensures.0 in
-    ⊎_elim (λ w. second-asked _ _ levels caps w.0.taken w.1) (λ w. first-fails _ _ levels w.0.left w.1) c.if2.branch
+    ⊎_elim (λ w. second_asked _ _ levels caps w.0.taken w.1) (λ w. first_fails _ _ levels w.0.left w.1) c.if2.branch
 
-returns-2 : tie.Need-returns-2
+returns_2 : tie.Need-returns-2
 unfolding take_over_of
-returns-2 c =
+returns_2 c =
     let join = c.before.before in
     c.unmade2.ensures
-    ∙ told-refused _ _ _ Measurement
-    (check-holds _ _ (sized join.before.before.before) ∙ check-fails _ _ (sym (measured join) ∙ not-true _ c.before.if3.true))
+    ∙ told_refused _ _ _ Measurement
+    (check_holds _ _ (sized join.before.before.before) ∙ check_fails _ _ (sym (measured join) ∙ not-true _ c.before.if3.true))
 
 tally-row-of-requires : tie.Need-tally-row-of-requires
 tally-row-of-requires c κs = (size_true _ (sized c.before.before.before.before)).1
@@ -66,7 +66,7 @@ allowed : (c : tie.Joined4)
 allowed c =
     let range = c.before.is-endurance.ensures in
     let tallies = c.before.before.tally-row-of.ensures.0 in
-    ⊎_elim (λ w. second-asked _ _ range tallies w.0.taken w.1) (λ w. first-fails _ _ range w.0.left w.1) c.if4.branch
+    ⊎_elim (λ w. second_asked _ _ range tallies w.0.taken w.1) (λ w. first_fails _ _ range w.0.left w.1) c.if4.branch
 
 -- the lists have passed
 passed : (c : tie.Else3)
@@ -80,8 +80,8 @@ returns-3 c =
     let join = c.before.before in
     let lists = join.before.before.before in
     c.unmade3.ensures
-    ∙ told-refused _ _ _ Endurance
-    (check-holds _ _ (sized lists.before.before.before.before) ∙ check-holds _ _ (passed lists) ∙ check-fails _ _ (sym (allowed join) ∙ not-true _ c.before.if5.true))
+    ∙ told_refused _ _ _ Endurance
+    (check_holds _ _ (sized lists.before.before.before.before) ∙ check_holds _ _ (passed lists) ∙ check_fails _ _ (sym (allowed join) ∙ not-true _ c.before.if5.true))
 
 -- equal rows make equal answers
 same_rows : (n e : ℕ) {ls ls' cs cs' us us' : List ℕ} → ls ≡ ls' → cs ≡ cs' → us ≡ us'
@@ -103,7 +103,7 @@ returns-4 c =
     let caps = rows.row-of2.ensures in
     let tallies = join.before.before.tally-row-of.ensures in
     same_rows a.n a.endurance (levels.1 (levels.0 ∙ measures.0)) (caps.1 (caps.0 ∙ measures.1)) (tallies.1 (tallies.0 ∙ tallied.1))
-    ∙ told-done _ _ _ (check-holds _ _ (sized size) ∙ check-holds _ _ (passed lists) ∙ check-holds _ _ lasts ∙ all_hold)
+    ∙ told_done _ _ _ (check_holds _ _ (sized size) ∙ check_holds _ _ (passed lists) ∙ check_holds _ _ lasts ∙ all_hold)
 
 pub take-over-spec : {M : Type 1} → statement M
 take-over-spec =
@@ -115,7 +115,7 @@ take-over-spec =
     row-of-requires
     row-of-requires-2
     (λ c κs. search rules)
-    returns-2
+    returns_2
     tally-row-of-requires
     (λ c κs. search rules)
     (λ c κs. search rules)

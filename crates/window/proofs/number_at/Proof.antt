@@ -5,7 +5,7 @@ use mathlib.Core.Path.{◌≡◌, refl, sym, ap, ◌∙◌}
 use native.Mathlib.Omega.{arith}
 use lib.ListN.{length, take}
 use Rattle.window.specs.Ring.{window_number}
-use Rattle.window.proofs.Numbering.{window_length, window_inside, placed_first, placed-kept}
+use Rattle.window.proofs.Numbering.{window_length, window_inside, placed_first, placed_kept}
 use Rattle.window.proofs.number_at.Statement.{statement}
 use Rattle.window.proofs.number_at.Tie as tie
 
@@ -27,13 +27,13 @@ slice-aggregate-number-of c = sym (window_first c)
 number-of-requires-2 : tie.Need-number-of-requires-2
 number-of-requires-2 c κs = omega (arith, window_first c, c.before.before.before.before.before.before.before.before.requires.1.0)
 
-returns-2 : tie.Need-returns-2
-returns-2 c =
+returns_2 : tie.Need-returns-2
+returns_2 c =
     let start = c.before.before.before.before.before.before.before.before.before in
     let a = start.args in
     let put = c.before.before.before.before.put-window.ensures in (
       c.number-of2.ensures ∙ ap window_number (placed_first a.ring.now a.width a.start a.scratch.now put),
-      placed-kept a.ring.now a.width a.start a.scratch.now put start.requires.1.1,
+      placed_kept a.ring.now a.width a.start a.scratch.now put start.requires.1.1,
     )
 
 pub number-at-spec : {M : Type 1} → statement M
@@ -52,4 +52,4 @@ number-at-spec =
     slice-aggregate-number-of
     number-of-requires-2
     (λ c. search rules)
-    returns-2)
+    returns_2)

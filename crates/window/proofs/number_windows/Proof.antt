@@ -7,7 +7,7 @@ use Prim.Native.Nat.{◌-◌, ◌/◌}
 use native.Mathlib.Omega.{arith}
 use lib.ListN.{length}
 use Rattle.window.specs.Calls.{scratch_levels}
-use Rattle.window.proofs.Numbering.{Numbering, begin, numbers-long, has_room, start-inside, next, numbers-done, scratch-done, scratch-long}
+use Rattle.window.proofs.Numbering.{Numbering, begin, numbers_long, has_room, start_inside, next, numbers_done, scratch_done, scratch_long}
 use Rattle.window.proofs.number_windows.Statement.{statement}
 use Rattle.window.proofs.number_windows.Tie as tie
 
@@ -30,16 +30,16 @@ loop-holds c = begin c.before.before.before.before.requires c.if1.false
 number-at-requires : tie.Need-number-at-requires invariant-loop decreases-loop
 number-at-requires c κs =
     let s = c.before.before.loop.invariant in
-    (omega (arith, start-inside s c.before.loop-test.true, s.needs.forward), (s.needs.wide, has_room s))
+    (omega (arith, start_inside s c.before.loop-test.true, s.needs.forward), (s.needs.wide, has_room s))
 
 mul-numbers : tie.Need-overflow-mul-numbers invariant-loop decreases-loop
-mul-numbers c = let s = c.before.before.before.before.before.loop.invariant in omega (arith, numbers-long s, s.needs.count)
+mul-numbers c = let s = c.before.before.before.before.before.loop.invariant in omega (arith, numbers_long s, s.needs.count)
 
 slice-write-numbers : tie.Need-slice-write-numbers invariant-loop decreases-loop
-slice-write-numbers c = let s = c.before.before.before.before.before.loop.invariant in omega (arith, numbers-long s, s.needs.count)
+slice-write-numbers c = let s = c.before.before.before.before.before.loop.invariant in omega (arith, numbers_long s, s.needs.count)
 
 add_start : tie.Need-overflow-add-start invariant-loop decreases-loop
-add_start c = omega (arith, start-inside c.before.before.before.before.before.loop.invariant c.before.before.before.before.loop-test.true)
+add_start c = omega (arith, start_inside c.before.before.before.before.before.loop.invariant c.before.before.before.before.loop-test.true)
 
 add-k : tie.Need-overflow-add-k invariant-loop decreases-loop
 add-k c = search rules
@@ -56,16 +56,16 @@ put-levels-requires : tie.Need-put-levels-requires invariant-loop decreases-loop
 put-levels-requires c κs = let s = c.before.before.loop.invariant in omega (arith, s.long, s.room)
 
 same_length : tie.Need-same-length invariant-loop decreases-loop
-same_length c = numbers-long c.before.before.before.before.before.loop.invariant
+same_length c = numbers_long c.before.before.before.before.before.loop.invariant
 
 same-length-2 : tie.Need-same-length-2 invariant-loop decreases-loop
-same-length-2 c = scratch-long c.before.before.before.before.before.loop.invariant c.before.before.put-levels.ensures
+same-length-2 c = scratch_long c.before.before.before.before.before.loop.invariant c.before.before.put-levels.ensures
 
-returns-2 : tie.Need-returns-2 invariant-loop decreases-loop
+returns_2 : tie.Need-returns-2 invariant-loop decreases-loop
 unfolding scratch_levels
-returns-2 c =
+returns_2 c =
     let s = c.before.before.before.before.before.loop.invariant in
-    (sym (le-leb _ _ s.room), (numbers-done s c.before.before.before.before.loop-test.false, scratch-done s c.before.before.put-levels.ensures))
+    (sym (le-leb _ _ s.room), (numbers_done s c.before.before.before.before.loop-test.false, scratch_done s c.before.before.put-levels.ensures))
 
 pub number-windows-spec : {M : Type 1} → statement M
 number-windows-spec =
@@ -86,4 +86,4 @@ number-windows-spec =
     put-levels-requires
     same_length
     same-length-2
-    returns-2)
+    returns_2)

@@ -10,9 +10,9 @@ returns : tie.Need-returns
 unfolding stands_after
 returns c = rw (sym c.before.stands-above.ensures ∙ c.if1.true)
 
-returns-2 : tie.Need-returns-2
+returns_2 : tie.Need-returns-2
 unfolding stands_after
-returns-2 c = rw (sym c.before.stands-above.ensures ∙ c.if1.false)
+returns_2 c = rw (sym c.before.stands-above.ensures ∙ c.if1.false)
 
 pub stands-after-spec : {M : Type 1} → statement M
-stands-after-spec = tie.close (tie.spec (λ c κs. search rules) returns returns-2)
+stands-after-spec = tie.close (tie.spec (λ c κs. search rules) returns returns_2)

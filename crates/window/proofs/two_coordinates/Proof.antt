@@ -4,7 +4,7 @@ use borrow.Author.Rules.{rules}
 use Prim.Native.Nat.{◌+◌, ◌-◌}
 use native.Mathlib.Omega.{arith}
 use lib.ListN.{get_or}
-use Rattle.window.proofs.Lower.{Counting, counting_none, counted-fits, counting_more, counting-done}
+use Rattle.window.proofs.Lower.{Counting, counting_none, counted_fits, counting_more, counting_done}
 use Rattle.window.proofs.two_coordinates.Statement.{statement}
 use Rattle.window.proofs.two_coordinates.Tie as tie
 
@@ -22,14 +22,14 @@ add-here c =
     let at = c.before.before.before in
     let start = at.before.before.before.before.before in
     let ls = start.args.window.now in
-    omega (arith, (counted-fits at.loop.invariant (get_or ls at.loop.j 0) (get_or ls start.args.i 0) c.stands-after2.ensures).0, start.requires)
+    omega (arith, (counted_fits at.loop.invariant (get_or ls at.loop.j 0) (get_or ls start.args.i 0) c.stands-after2.ensures).0, start.requires)
 
 add-next : tie.Need-overflow-add-next invariant-loop decreases-loop
 add-next c =
     let at = c.before.before.before.before.before in
     let start = at.before.before.before.before.before in
     let ls = start.args.window.now in
-    omega (arith, (counted-fits at.loop.invariant (get_or ls at.loop.j 0) (get_or ls (start.args.i + 1) 0) c.stands-after3.ensures).1, start.requires)
+    omega (arith, (counted_fits at.loop.invariant (get_or ls at.loop.j 0) (get_or ls (start.args.i + 1) 0) c.stands-after3.ensures).1, start.requires)
 
 loop-again : tie.Need-loop-preserved invariant-loop decreases-loop
 loop-again c =
@@ -37,7 +37,7 @@ loop-again c =
     counting_more at.loop.invariant c.before.before.before.before.loop-test.true c.before.before.stands-after2.ensures c.stands-after3.ensures
 
 returns : tie.Need-returns invariant-loop decreases-loop
-returns c = counting-done c.before.loop.invariant c.loop-test.false c.before.before.before.before.before.before.requires.0
+returns c = counting_done c.before.loop.invariant c.loop-test.false c.before.before.before.before.before.before.requires.0
 
 pub two-coordinates-spec : {M : Type 1} → statement M
 two-coordinates-spec =

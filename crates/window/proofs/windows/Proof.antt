@@ -9,17 +9,17 @@ use lib.Seq.{length-take-le}
 use Rattle.order.specs.Refusals.{outcome_number, number_of}
 use Rattle.order.proofs.Refusals.{accepted}
 use Rattle.cell_run.specs.Run.{run_checks, level_checks}
-use Rattle.cell_run.proofs.Checks.{checked-length}
+use Rattle.cell_run.proofs.Checks.{checked_length}
 use Rattle.cell_run.proofs.Runs.{IsRun, levels_pass}
 use Rattle.window.specs.Calls.{ring}
-use Rattle.window.proofs.Answers.{run-refused, run-passed, run-passing}
+use Rattle.window.proofs.Answers.{run_refused, run_passed, run_passing}
 use Rattle.window.proofs.windows.Statement.{statement}
 use Rattle.window.proofs.windows.Tie as tie
 
 returns : tie.Need-returns
 returns c =
     let known = c.before.checked.given in
-    run-refused _ _ _ _ _ _ known.0.0 (sym c.before.before.before.check.ensures ∙ ap outcome_number known.1)
+    run_refused _ _ _ _ _ _ known.0.0 (sym c.before.before.before.check.ensures ∙ ap outcome_number known.1)
 
 -- the record has passed
 passed : (c : tie.After-enum-told) → number_of (run_checks c.before.before.before.before.before.args.run) ≡ 0
@@ -31,7 +31,7 @@ all c = search rules
 within : (c : tie.After-enum-told) → let r = c.before.before.before.before.before.args.run in r.len ≤ length r.levels
 within c =
     let start = c.before.before.before.before.before in
-    omega (arith, checked-length start.args.run (passed c), all start)
+    omega (arith, checked_length start.args.run (passed c), all start)
 
 array-share-prefix-levels : tie.Need-array-share-prefix-levels
 array-share-prefix-levels c = within c.before
@@ -42,16 +42,16 @@ slice-aggregate-windows-of-levels c =
     let r = d.before.before.before.before.before.args.run in
     sym (length-take-le r.len r.levels (within d))
 
-returns-2 : tie.Need-returns-2
-returns-2 c =
+returns_2 : tie.Need-returns-2
+returns_2 c =
     let n = c.before.before.before.before in
     let d = n.before.before.before.before.before in
     let start = d.before.before.before.before.before in
     let a = start.args in
     let r = a.run in
     let run : IsRun r = record { passes = passed d; levels = all start } in
-    run-passed (run_checks r) (ring r) a.width a.step a.numbers.now a.scratch.now (passed d)
-    (run-passing (level_checks (ring r)) (ring r) a.width a.step a.numbers.now a.scratch.now (levels_pass r run) n.windows-of-levels.ensures)
+    run_passed (run_checks r) (ring r) a.width a.step a.numbers.now a.scratch.now (passed d)
+    (run_passing (level_checks (ring r)) (ring r) a.width a.step a.numbers.now a.scratch.now (levels_pass r run) n.windows-of-levels.ensures)
 
 pub windows-spec : {M : Type 1} → statement M
 windows-spec =
@@ -66,4 +66,4 @@ windows-spec =
     (λ c κs. search rules)
     (λ c. search rules)
     (λ c. search rules)
-    returns-2)
+    returns_2)

@@ -7,7 +7,7 @@ use denote.Triple.Table.{entered, cited}
 use Rattle.order.specs.contracts.Order as Order'
 use Rattle.order.proofs.Order.TheLaws as Order''
 use Rattle.push_room.specs.Room.{write_into_of}
-use Rattle.push_room.proofs.Answers.{into-answer}
+use Rattle.push_room.proofs.Answers.{into_answer}
 use Rattle.push_list.proofs.LentCall.{Target}
 use Rattle.push_list.proofs.write_into.Symbol as write-into-def
 use Rattle.push_list.proofs.write_into.Symbol.{name as #write-into}
@@ -26,7 +26,7 @@ target = record {
   last = λ t. tt;
   silent = λ t f. refl;
   told = write_into_of;
-  answers = λ g t room. into-answer g room t;
+  answers = λ g t room. into_answer g room t;
 }
 
 pub lend_spec : {M : Type 1} → stated.statement M

@@ -7,7 +7,7 @@ use denote.Triple.Table.{entered, cited}
 use Rattle.sharing.specs.contracts.Ranked as Ranked'
 use Rattle.sharing.proofs.Ranked.TheLaws as Ranked''
 use Rattle.push_room.specs.Room.{write_shared_into_of}
-use Rattle.push_room.proofs.Answers.{shared-into-answer}
+use Rattle.push_room.proofs.Answers.{shared_into_answer}
 use Rattle.push_list.proofs.LentCall.{Target}
 use Rattle.push_list.proofs.write_shared_into.Symbol as write-shared-into-def
 use Rattle.push_list.proofs.write_shared_into.Symbol.{name as #write-shared-into}
@@ -26,7 +26,7 @@ target = record {
   last = λ t. tt;
   silent = λ t f. refl;
   told = write_shared_into_of;
-  answers = λ g t room. shared-into-answer g room t;
+  answers = λ g t room. shared_into_answer g room t;
 }
 
 pub lend_shared_spec : {M : Type 1} → stated.statement M
