@@ -1,6 +1,8 @@
 // Cells, ranks and orders (document 01, "Cells, ranks, levels") and the refusal table.
 // Every public function takes any value and answers it by one equation with a definition of specs/; a call that can refuse answers the
 // refusal's number and zeros, or the result.
+#![tactic(auto)]
+
 ghost use Rattle.std.specs.Prelude.{◌≡◌, true, ◌≤◌, ◌<◌, length};
 ghost use Rattle.std.specs.Int.Bits.{bit_and};
 ghost use Rattle.order.specs.Refusals.{refusal_number, outcome_number, number_of, is_size};
@@ -41,22 +43,22 @@ const SPARE: [u8; 24] = [
 ];
 
 // A cell's number, from 1.
-#[derive(Drop)]
+#[derive(Clone, Copy)]
 pub struct Cell(pub u8);
 
 // A rank, from 1.
-#[derive(Drop)]
+#[derive(Clone, Copy)]
 pub struct Rank(pub u8);
 
 // The cells from highest level to lowest: the cell in place k at index k - 1. Indices from `len` on hold `Cell(0)`.
-#[derive(Drop)]
+#[derive(Clone, Copy)]
 pub struct Order {
     pub len: usize,
     pub cells: [Cell; 12],
 }
 
 // The words of document 01's refusal table, in its order, and those of document 02.
-#[derive(Drop)]
+#[derive(Clone, Copy)]
 pub enum Refusal {
     Size,
     NoGroup,
@@ -81,13 +83,13 @@ pub enum Refusal {
     Seed,
 }
 
-#[derive(Drop)]
+#[derive(Clone, Copy)]
 pub enum Outcome {
     Done,
     Refused(Refusal),
 }
 
-#[derive(Drop)]
+#[derive(Clone, Copy)]
 pub struct OrderAnswer {
     pub outcome: Outcome,
     pub order: Order,

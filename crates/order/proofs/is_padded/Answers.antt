@@ -1,0 +1,18 @@
+-- `order::is_padded` meets its contract. The loop's invariant: `over` is 0 where the numbers up to place `i` are padded.
+use borrow.Author.Rules.{rules}
+use Prim.Native.Nat.{◌-◌}
+use mathlib.Core.Path.{refl}
+use Rattle.order.specs.Order.{cell_numbers}
+use Rattle.order.proofs.Numbers.{length_mapped, length_places, place_at}
+use Rattle.order.proofs.Spare.{PaddedTo, padded_none, padded_more, padded_end}
+use Rattle.order.proofs.is_padded.Goals as goal
+
+pub loop-i-init : goal.loop-i-init
+loop-i-init c = padded_none _ _ (length_places _ (search length_mapped)) c.requires
+
+pub loop-i-preserved : goal.loop-i-preserved
+loop-i-preserved c =
+    rw c.bits_among-over.ensures.0 (padded_more c.loop-i.invariant c.loop-i-test.true (place_at _ _) c.bits_among-over.ensures.1 refl)
+
+pub returns : goal.returns
+returns c = padded_end c.loop-i.invariant c.loop-i-test.false

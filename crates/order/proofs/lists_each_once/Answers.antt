@@ -1,0 +1,35 @@
+-- `order::lists_each_once` meets its contract. The loop's invariant: `met` is the set of 0 and the numbers before place `i`.
+use borrow.Author.Rules.{rules}
+use Prim.Native.Nat.{ℕ, ◌-◌, ◌%◌, ◌^◌, ◌≤◌, ◌<◌}
+use native.Mathlib.Nat.{mod-eq_of_lt}
+use native.Mathlib.Omega.{arith}
+use lib.ListN.{get_or}
+use lib.Pow.{pow_mono, pow_pos}
+use Rattle.order.specs.Order.{cell_numbers}
+use Rattle.order.proofs.Numbers.{length_mapped, length_places, place_at}
+use Rattle.order.proofs.Spare.{padded_small, padded_zeros}
+use Rattle.order.proofs.Marks.{Met, met_none, met_more, met_all}
+use Rattle.order.proofs.lists_each_once.Goals as goal
+
+-- no shift loses a bit
+bit : (k : ℕ) → k ≤ 15 → (1 ≤ 2 ^ k) × (2 ^ k ≤ 2 ^ 15)
+bit k l = (pow_pos k, pow_mono {i = k} {j = 15} l)
+
+pub loop-i-init : goal.loop-i-init
+loop-i-init c = met_none _ (length_places _ (search length_mapped))
+
+pub overflow_shl-met : goal.overflow_shl-met
+overflow_shl-met c =
+    let small : (get_or c.args.o.cells c.loop-i.i (record { 0 = 0 })).0 ≤ 15 = rw (place_at _ _) (padded_small _ _ _ c.requires.1) in
+    omega (arith, small)
+
+pub loop-i-preserved : goal.loop-i-preserved
+loop-i-preserved c =
+    let small : (get_or c.args.o.cells c.loop-i.i (record { 0 = 0 })).0 ≤ 15 = rw (place_at _ _) (padded_small _ _ _ c.requires.1) in
+    let b = bit _ (small) in
+    met_more c.loop-i.invariant c.loop-i-test.true (place_at _ _) (small) (omega (arith, b))
+
+pub returns : goal.returns
+returns c =
+    let b = bit c.args.o.len (omega (arith, c.requires.0)) in
+    met_all c.loop-i.invariant c.loop-i-test.false _ c.requires.0 (padded_zeros _ _ c.requires.1) (omega (arith, b))

@@ -1,0 +1,13 @@
+-- `order::order_with` meets its contract. The loop's invariant: the first `i` numbers are in place.
+use borrow.Author.Rules.{rules}
+use Prim.Native.Nat.{◌-◌}
+use native.Mathlib.Omega.{arith}
+use lib.ListN.{length}
+use Rattle.order.proofs.Filling.{Filled, filled_none, filled_more, filled_all}
+use Rattle.order.proofs.order_with.Given as goal
+
+abbrev pub invariant-loop-i : goal.invariant-loop-i
+invariant-loop-i l = Filled l.cells l.held l.i
+
+abbrev pub decreases-loop-i : goal.decreases-loop-i
+decreases-loop-i l = length l.cells - l.i
