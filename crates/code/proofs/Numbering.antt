@@ -14,7 +14,7 @@ use Rattle.coordinates.specs.Coordinates.{weight, limit, in_range}
 use Rattle.coordinates.proofs.Range.{limit_low}
 use Rattle.decoder.specs.Decoding.{leaves}
 use Rattle.code.specs.Words.{joined, select, vectors_from, same, index_of}
-use Rattle.code.specs.Tails.{sum_below_lem, owed, nothing, tails_from}
+use Rattle.code.specs.Tails.{sum_below, owed, nothing, tails_from}
 use Rattle.code.proofs.Residue.{shift}
 use Rattle.code.proofs.Lists.{after, select_joined, select_map, length_joined, getD_joined, get_d_map, index_joined, within_sum, sum_term}
 
@@ -24,7 +24,7 @@ words_from m k i r = select (leaves m i r) (vectors_from k i)
 
 -- how many of the choices of k + 1 coordinates from coordinate i on that leave r have coordinate i below v
 unfoldable pub below : ℕ → ℕ → ℕ → ℕ → ℕ → ℕ
-below m k i r v = sum_below_lem (λ u. tails_from m k (suc i) (owed m i r u)) v
+below m k i r v = sum_below (λ u. tails_from m k (suc i) (owed m i r u)) v
 
 module _ (m : ℕ) (pos : 0 < m) where
   pub owed_lt : (i r v : ℕ) → owed m i r v < m
@@ -65,7 +65,7 @@ module _ (m : ℕ) (pos : 0 < m) where
   unfolding below
   length_parts k counted i r v =
       length_joined (part k i r) v
-      ∙ ap (λ (c : ℕ → ℕ). sum_below_lem c v)
+      ∙ ap (λ (c : ℕ → ℕ). sum_below c v)
       (fun_ext λ u. length-map (words_from m k (suc i) (owed m i r u)) (after u) ∙ counted (suc i) (owed m i r u) (owed_lt i r u))
 
   -- the words that leave r are as many as the recurrence says

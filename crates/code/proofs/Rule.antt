@@ -13,7 +13,7 @@ use Rattle.order.specs.Refusals.{is_size}
 use Rattle.order.proofs.Refusals.{size_true}
 use Rattle.decoder.specs.Decoding.{modulus}
 use Rattle.code.specs.declared.table.Table.{Table}
-use Rattle.code.specs.Tails.{sum_below_lem, owed, nothing, tails_from, tails, Entry, Block}
+use Rattle.code.specs.Tails.{sum_below, owed, nothing, tails_from, tails, Entry, Block}
 use Rattle.code.specs.Table.{all, entry, due, block_right, blocks, table_right}
 use Rattle.code.proofs.Tests.{and_left, and_right, all_at}
 
@@ -41,7 +41,7 @@ module _ (counts : List ℕ) (n : ℕ) (pos : 0 < n) (t : T (block_right counts 
   row zero j r e hr = rw (le-ltb (suc j) n (omega arith)) at (at j r (omega arith) hr)
   row (suc k) j r e hr =
       rw (lt-ltb (suc j) n (omega arith)) at (at j r (omega arith) hr)
-      ∙ ap (λ (f : ℕ → ℕ). sum_below_lem f (suc (suc j))) (fun_ext (λ v. row k (suc j) (owed (modulus n) (suc j) r v) (omega arith) (mod-lt _ (omega arith))))
+      ∙ ap (λ (f : ℕ → ℕ). sum_below f (suc (suc j))) (fun_ext (λ v. row k (suc j) (owed (modulus n) (suc j) r v) (omega arith) (mod-lt _ (omega arith))))
 
 module _ (t : Table) (right : T (table_right t)) (k : ℕ) (h : k < 10) where
   abbrev block : List ℕ
@@ -81,8 +81,8 @@ ways : ℕ → ℕ → ℕ
 ways zero i = 1
 ways (suc k) i = suc i * ways k (suc i)
 
-sum_bound : (c : ℕ → ℕ) (b : ℕ) → ((v : ℕ) → c v ≤ b) → (j : ℕ) → sum_below_lem c j ≤ j * b
-unfolding sum_below_lem
+sum_bound : (c : ℕ → ℕ) (b : ℕ) → ((v : ℕ) → c v ≤ b) → (j : ℕ) → sum_below c j ≤ j * b
+unfolding sum_below
 sum_bound c b h zero = omega arith
 sum_bound c b h (suc j) = omega (arith, sum_bound c b h j, h j, suc-mul j b)
 

@@ -10,18 +10,18 @@ use native.Mathlib.Omega.{arith}
 use lib.ListN.{get_or}
 use Rattle.decoder.specs.Decoding.{modulus}
 use Rattle.code.specs.Words.{index_of}
-use Rattle.code.specs.Tails.{sum_below_lem, owed, tails_from, tails, having, before}
+use Rattle.code.specs.Tails.{sum_below, owed, tails_from, tails, having, before}
 use Rattle.code.specs.Steps.{Choosing}
 use Rattle.code.proofs.Lists.{sum_term}
 use Rattle.code.proofs.Numbering.{words_from, owed_lt, below, word_suc, number_suc}
 use Rattle.code.proofs.Residue.{none_yet, once_more}
 
 pub before_zero : (n i r : ℕ) → before n i r 0 ≡ 0
-unfolding before sum_below_lem
+unfolding before sum_below
 before_zero n i r = refl
 
 pub before_more : (n i r v : ℕ) → before n i r (v + 1) ≡ before n i r v + having n i r v
-unfolding before sum_below_lem
+unfolding before sum_below
 before_more n i r v = rw add-one
 
 -- s is what the later coordinates must leave where coordinate i is v
@@ -45,7 +45,7 @@ counted k o e = rw o.right at e
 -- the same count, by the number of coordinates from i on
 before_below : (n i r v : ℕ) → before n i r v ≡ below (modulus n) (n - suc i) i r v
 unfolding before tails below
-before_below n i r v = ap (λ (j : ℕ). sum_below_lem (λ u. tails_from (modulus n) (n - j) j (owed (modulus n) i r u)) v) (add-one i)
+before_below n i r v = ap (λ (j : ℕ). sum_below (λ u. tails_from (modulus n) (n - j) j (owed (modulus n) i r u)) v) (add-one i)
 
 module _ (n i r : ℕ) (h : i < n) where
   tails_below : tails n i r ≡ below (modulus n) (n - suc i) i r (suc i)

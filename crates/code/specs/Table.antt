@@ -10,7 +10,7 @@
 use Rattle.std.specs.Prelude.{Bool, true, cond, ◌&&◌, List, [], ◌∷◌, ℕ, zero, suc, ◌+◌, ◌*◌, eqb, ltb, length, get_or}
 use Rattle.code.specs.declared.table.Table.{Table}
 use Rattle.decoder.specs.Decoding.{modulus}
-use Rattle.code.specs.Tails.{sum_below_lem, owed, nothing}
+use Rattle.code.specs.Tails.{sum_below, owed, nothing}
 
 unfoldable pub all : (ℕ → Bool) → ℕ → Bool
 all f zero = true
@@ -20,7 +20,7 @@ abbrev pub entry : List ℕ → ℕ → ℕ → ℕ → ℕ
 entry block n j r = get_or block (j * modulus n + r) 0
 
 unfoldable pub due : List ℕ → ℕ → ℕ → ℕ → ℕ
-due block n j r = cond (ltb (suc j) n) (sum_below_lem (λ v. entry block n (suc j) (owed (modulus n) (suc j) r v)) (suc (suc j))) (nothing r)
+due block n j r = cond (ltb (suc j) n) (sum_below (λ v. entry block n (suc j) (owed (modulus n) (suc j) r v)) (suc (suc j))) (nothing r)
 
 unfoldable pub block_right : List ℕ → ℕ → Bool
 block_right block n = all (λ j. all (λ r. eqb (entry block n j r) (due block n j r)) (modulus n)) n

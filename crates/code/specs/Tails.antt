@@ -1,7 +1,7 @@
 -- Document 01, "The one-error code": the counts of the table, by their recurrence. The contracts of private functions cite them; what they
 -- count is shown in proofs/Laws (`entry_counts`, `K-entry`).
 --
---   sum_below_lem f j       f 0 + f 1 + .. + f (j - 1)
+--   sum_below f j       f 0 + f 1 + .. + f (j - 1)
 --   owed m i r v       what the later coordinates must leave, for all to leave r, where coordinate i is v
 --   nothing r          nothing is chosen: 1 for r = 0, else 0
 --   tails_from m k i r  how many choices of k coordinates from coordinate i on leave r, for r below m
@@ -13,9 +13,9 @@
 use Rattle.std.specs.Prelude.{◌≡◌, List, ℕ, zero, suc, ◌+◌, ◌-◌, ◌*◌, ◌%◌, ◌≤◌, ◌<◌, length, get_or}
 use Rattle.decoder.specs.Decoding.{modulus}
 
-unfoldable pub sum_below_lem : (ℕ → ℕ) → ℕ → ℕ
-sum_below_lem f zero = 0
-sum_below_lem f (suc j) = sum_below_lem f j + f j
+unfoldable pub sum_below : (ℕ → ℕ) → ℕ → ℕ
+sum_below f zero = 0
+sum_below f (suc j) = sum_below f j + f j
 
 unfoldable pub owed : ℕ → ℕ → ℕ → ℕ → ℕ
 owed m i r v = (r + (m - i * v % m)) % m
@@ -26,7 +26,7 @@ nothing (suc r) = 0
 
 unfoldable pub tails_from : ℕ → ℕ → ℕ → ℕ → ℕ
 tails_from m zero i r = nothing r
-tails_from m (suc k) i r = sum_below_lem (λ v. tails_from m k (suc i) (owed m i r v)) (suc i)
+tails_from m (suc k) i r = sum_below (λ v. tails_from m k (suc i) (owed m i r v)) (suc i)
 
 unfoldable pub tails : ℕ → ℕ → ℕ → ℕ
 tails n i r = tails_from (modulus n) (n - i) i r
@@ -35,7 +35,7 @@ abbrev pub having : ℕ → ℕ → ℕ → ℕ → ℕ
 having n i r v = tails n (i + 1) (owed (modulus n) i r v)
 
 unfoldable pub before : ℕ → ℕ → ℕ → ℕ → ℕ
-before n i r v = sum_below_lem (having n i r) v
+before n i r v = sum_below (having n i r) v
 
 pub record Entry (n i r : ℕ) : Type 0 where
   pub low : 3 ≤ n

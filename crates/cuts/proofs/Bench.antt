@@ -10,7 +10,7 @@ use Rattle.order.specs.Refusals as refusals
 use Rattle.order.specs.Cells.{each_once, is_order, all_zero, is_listing}
 use Rattle.order.specs.Order.{cell_numbers, is_order_of}
 use Rattle.coordinates.specs.Coordinates.{coordinate_of, coordinates_to, weight, order_from}
-use Rattle.decoder.specs.Decoding.{leaves, is_codeword, first_below_lem, correction}
+use Rattle.decoder.specs.Decoding.{leaves, is_codeword, first_below, correction}
 use Rattle.code.specs.declared.Verdict.TheVariants.{Clean, PutRight}
 use Rattle.code.specs.Words.{joined, select, same, index_of, vectors_from, vectors, words, K, word_at, word_number, symbol_of}
 use Rattle.code.specs.Symbols.{word_of, reading_at}
@@ -25,7 +25,7 @@ use Rattle.sensing.specs.Sense.{stands_above, insert, sorted, sensed}
 use Rattle.engine.specs.ReadStore.{read_of, store_of}
 use Rattle.engine.specs.Scrub.{scrub_of}
 use Rattle.plain_machine.specs.declared.Kind.TheVariants.{Write, WriteShared, Store, Scrub}
-use Rattle.sharing.specs.Shared.{each_filled, is_sizes, by_number_lem, ranks_of, write_shared_of, plain_target}
+use Rattle.sharing.specs.Shared.{each_filled, is_sizes, by_number, ranks_of, write_shared_of, plain_target}
 use Rattle.plain_machine.specs.declared.Call.{Call}
 use Rattle.plain_machine.specs.Machine.{apply_of}
 use Rattle.rivals.specs.Starred.{order, capped, group, taken, push, step, done, refused}
@@ -86,7 +86,7 @@ pub case_shared_cut :
     × (pulses_at (program_of apply_of (group true (3 ∷ 3 ∷ 3 ∷ 2 ∷ 2 ∷ 1 ∷ [])) shared) third ≡ 4)
     × (taken_at apply_of (group true (3 ∷ 3 ∷ 3 ∷ 2 ∷ 2 ∷ 1 ∷ [])) shared third ≡ done (taken (1 ∷ 0 ∷ 1 ∷ 0 ∷ 1 ∷ 1 ∷ []) (group true (4 ∷ 3 ∷ 4 ∷ 2 ∷ 3 ∷ 2 ∷ []))))
     × (apply_of (taken (1 ∷ 0 ∷ 1 ∷ 0 ∷ 1 ∷ 1 ∷ []) (group true (4 ∷ 3 ∷ 4 ∷ 2 ∷ 3 ∷ 2 ∷ []))) shared ≡ done (step (taken (1 ∷ 0 ∷ 1 ∷ 0 ∷ 1 ∷ 3 ∷ []) (group false (4 ∷ 3 ∷ 4 ∷ 2 ∷ 3 ∷ 4 ∷ []))) 0 none 2 (push 6 2 4 ∷ [])))
-unfolding refusals.answer refusals.number_of is_row all_at_most is_given take_over_of taken_at levels_at pulses_at played cell_numbers is_order_of is_listing is_order each_once all_zero level put at_most sum each_filled is_sizes by_number_lem ranks_of top floor_over lift raise push_of rank_pushes pushes pulses_in raised fits lasts tallied pushed write_shared_of apply_of
+unfolding refusals.answer refusals.number_of is_row all_at_most is_given take_over_of taken_at levels_at pulses_at played cell_numbers is_order_of is_listing is_order each_once all_zero level put at_most sum each_filled is_sizes by_number ranks_of top floor_over lift raise push_of rank_pushes pushes pulses_in raised fits lasts tallied pushed write_shared_of apply_of
 case_shared_cut = (refl, refl, refl, refl)
 
 -- ---- a scrub is no repair. A store of 0, cut before its first push, leaves a group that reads as 1, clean, and a scrub makes it so. A scrub that is to write
@@ -105,7 +105,7 @@ pub scrub_misled :
     × (apply_of (group true (0 ∷ 0 ∷ 0 ∷ 0 ∷ [])) scrub ≡ done (step (taken (0 ∷ 1 ∷ 2 ∷ 3 ∷ []) (group true (0 ∷ 1 ∷ 2 ∷ 3 ∷ []))) 3 (some Clean) 6 (push 2 0 1 ∷ push 3 0 2 ∷ push 4 0 3 ∷ [])))
     × (taken_at apply_of (group true (0 ∷ 0 ∷ 0 ∷ 0 ∷ [])) scrub (record { done = 1; level = 0 }) ≡ done (taken (0 ∷ 1 ∷ 0 ∷ 0 ∷ []) (group true (0 ∷ 1 ∷ 0 ∷ 0 ∷ []))))
     × (apply_of (taken (0 ∷ 1 ∷ 0 ∷ 0 ∷ []) (group true (0 ∷ 1 ∷ 0 ∷ 0 ∷ []))) scrub ≡ done (step (taken (1 ∷ 3 ∷ 0 ∷ 2 ∷ []) (group true (1 ∷ 3 ∷ 0 ∷ 2 ∷ []))) 2 (some (PutRight (record { 0 = 3 }))) 5 (push 1 0 1 ∷ push 4 0 2 ∷ push 2 1 3 ∷ [])))
-unfolding refusals.answer refusals.number_of is_row all_at_most is_given take_over_of taken_at levels_at played level put at_most singles top floor_over lift raise push_of rank_pushes pushes pulses_in raised fits lasts tallied pushed store_of scrub_of apply_of word_of order_from K word_at words vectors vectors_from joined select leaves weight stands_above insert sorted sensed read_of reading_at correction first_below_lem is_codeword symbol_of word_number index_of same coordinates_to coordinate_of
+unfolding refusals.answer refusals.number_of is_row all_at_most is_given take_over_of taken_at levels_at played level put at_most singles top floor_over lift raise push_of rank_pushes pushes pulses_in raised fits lasts tallied pushed store_of scrub_of apply_of word_of order_from K word_at words vectors vectors_from joined select leaves weight stands_above insert sorted sensed read_of reading_at correction first_below is_codeword symbol_of word_number index_of same coordinates_to coordinate_of
 scrub_misled = (refl, refl, refl, refl, refl, refl)
 
 -- ---- take_overs: a cap below its level is taken over, and so are used pulses up to the endurance, also fewer than a level would take; a list of another length, a

@@ -5,7 +5,7 @@ use mathlib.Core.List.{[], ◌∷◌}
 use native.Mathlib.Omega.{arith}
 use Rattle.order.specs.Refusals as refusals
 use Rattle.code.specs.Words.{K}
-use Rattle.code.specs.Tails.{tails, tails_from, sum_below_lem, owed, nothing}
+use Rattle.code.specs.Tails.{tails, tails_from, sum_below, owed, nothing}
 use Rattle.code.proofs.Laws.{K-entry}
 use Rattle.load.specs.Load.{next_state, state_after, symbols, load_of, symbols_after}
 
@@ -24,7 +24,7 @@ unfolding state_after next_state
 state_100 = refl
 
 words_of_5 : K 5 ≡ 14
-unfolding tails tails_from sum_below_lem owed nothing
+unfolding tails tails_from sum_below owed nothing
 words_of_5 = sym (K-entry 5 (omega arith))
 
 -- four symbols of 5 cells, whole, and the last two of them from the state that the first two leave

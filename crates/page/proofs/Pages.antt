@@ -23,7 +23,7 @@ use Rattle.engine.specs.declared.ReadAnswer.TheVariants as read
 use Rattle.engine.specs.ReadStore.{read_of, told_read}
 use Rattle.page.specs.declared.Page.{Page}
 use Rattle.page.specs.Groups.{all_of, put_each, first_refusing}
-use Rattle.page.specs.Pages.{group_at_lem, like_first, is_page, page_answer, number_read, symbol_read, symbols_of, unread, read_page_of}
+use Rattle.page.specs.Pages.{group_at, like_first, is_page, page_answer, number_read, symbol_read, symbols_of, unread, read_page_of}
 use Rattle.page.proofs.Groups.{all_but, none_next, first_at}
 
 -- ---- elements
@@ -37,7 +37,7 @@ get_d_any (x ∷ xs) (suc k) d e l = get_d_any xs k d e (omega arith)
 pub back_one : (k : ℕ) → suc k - 1 ≡ k
 back_one k = omega arith
 
-pub group_at_lem : (p : Page) (k : ℕ) (d : Group) → k < length p.groups → get_or p.groups k d ≡ group_at_lem p (suc k)
+pub group_at_lem : (p : Page) (k : ℕ) (d : Group) → k < length p.groups → get_or p.groups k d ≡ group_at p (suc k)
 group_at_lem p k d l = rw (back_one k) (get_d_any p.groups k d _ l)
 
 -- ---- the answer to a page call
@@ -129,7 +129,7 @@ read_start {p} w e = record { is_page_lem = e; long = w; most = page_most p e; w
 
 module _ {p : Page} {symbols : List ℕ} {k : ℕ} (h : ReadTo p symbols k) where
   module _ (l : k < p.count) (a : ReadAnswer) (d : Group) (e : told_read a ≡ read_of (get_or p.groups k d)) where
-    read_same : told_read a ≡ read_of (group_at_lem p (suc k))
+    read_same : told_read a ≡ read_of (group_at p (suc k))
     read_same = e ∙ ap read_of (group_at_lem p k d (omega (arith, h.long, h.most)))
 
     read_number : number_read p (suc k) ≡ (told_read a).number
@@ -139,7 +139,7 @@ module _ {p : Page} {symbols : List ℕ} {k : ℕ} (h : ReadTo p symbols k) wher
     pub read_more : {s : ℕ} {v : _} → a ≡ read.Read s v → ReadTo p (set symbols k s) (k + 1)
     unfolding put_each symbol_read
     read_more {s} o =
-        let symbol : s ≡ (read_of (group_at_lem p (suc k))).value.symbol = ap (λ (t : Told Reading). t.value.symbol) (rw o at read_same) in
+        let symbol : s ≡ (read_of (group_at p (suc k))).value.symbol = ap (λ (t : Told Reading). t.value.symbol) (rw o at read_same) in
         record {
           is_page_lem = h.is_page_lem;
           long = h.long;

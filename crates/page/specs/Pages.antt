@@ -1,6 +1,6 @@
 -- Document 02, "A page of groups": what is a page, the form of the answers to page calls, and what a page read answers.
 --
---   group_at_lem p k         group k of the page; groups are counted from 1
+--   group_at p k         group k of the page; groups are counted from 1
 --   like_first p k       group k has the n of group 1
 --   is_page p            1 to 8 records with the same n; whether each of them is a group is asked group by group. What stands after them is not looked at
 --   page_answer b n number a z    the answer to a page call: 16 and z 0 where b does not hold; 0 and the result a where each of the groups 1 to n has the
@@ -23,11 +23,11 @@ use Rattle.page.specs.Groups.{all_of, put_each, first_refusing}
 
 -- ---- pages
 
-abbrev pub group_at_lem : Page → ℕ → Group
-group_at_lem p k = get_or p.groups (k - 1) no_group
+abbrev pub group_at : Page → ℕ → Group
+group_at p k = get_or p.groups (k - 1) no_group
 
 unfoldable pub like_first : Page → ℕ → Bool
-like_first p k = eqb (group_at_lem p k).n (group_at_lem p 1).n
+like_first p k = eqb (group_at p k).n (group_at p 1).n
 
 unfoldable pub is_page : Page → Bool
 is_page p = leb 1 p.count && (leb p.count 8 && all_of p.count (like_first p))
@@ -40,10 +40,10 @@ page_answer b n number result zeros =
 -- ---- page read
 
 unfoldable pub number_read : Page → ℕ → ℕ
-number_read p k = (read_of (group_at_lem p k)).number
+number_read p k = (read_of (group_at p k)).number
 
 unfoldable pub symbol_read : Page → ℕ → ℕ
-symbol_read p k = (read_of (group_at_lem p k)).value.symbol
+symbol_read p k = (read_of (group_at p k)).value.symbol
 
 pub record ReadSymbols : Type 0 where
   pub group : ℕ

@@ -9,7 +9,7 @@ use lib.ListN.{length}
 use Rattle.order.specs.Refusals as refusals
 use Rattle.order.specs.Order.{no_order}
 use Rattle.coordinates.specs.Coordinates.{coordinate_of, coordinates_to, weight, order_from}
-use Rattle.decoder.specs.Decoding.{leaves, is_codeword, first_below_lem, correction}
+use Rattle.decoder.specs.Decoding.{leaves, is_codeword, first_below, correction}
 use Rattle.code.specs.Words.{joined, select, same, index_of, vectors_from, vectors, words, K, word_at, word_number, symbol_of}
 use Rattle.code.specs.Symbols.{word_of, reading_at}
 use Rattle.group.specs.declared.Group.{Group}
@@ -100,7 +100,7 @@ pub pages_answer :
     × (store_page_of (page []) [] ≡ refused 16 (none_stored (page []) 0))
     × (read_page_of nine ≡ refused 16 (unread 0))
     × (store_page_of (page (no_group ∷ no_group ∷ [])) (1 ∷ 1 ∷ []) ≡ refused 1 (none_stored (page (no_group ∷ no_group ∷ [])) 1))
-unfolding refusals.answer refusals.number_of level put at_most tallied all_at_most is_row singles top floor_over lift raise push_of rank_pushes pushes pulses_in raised fits lasts pushed store_of word_of order_from K word_at words vectors vectors_from joined select leaves weight stands_above insert sorted sensed read_of reading_at correction first_below_lem is_codeword symbol_of word_number index_of same coordinates_to coordinate_of total all_of put_each first_refusing like_first is_page takes page_answer number_stored group_stored pulses_stored store_page_of number_read symbol_read read_page_of
+unfolding refusals.answer refusals.number_of level put at_most tallied all_at_most is_row singles top floor_over lift raise push_of rank_pushes pushes pulses_in raised fits lasts pushed store_of word_of order_from K word_at words vectors vectors_from joined select leaves weight stands_above insert sorted sensed read_of reading_at correction first_below is_codeword symbol_of word_number index_of same coordinates_to coordinate_of total all_of put_each first_refusing like_first is_page takes page_answer number_stored group_stored pulses_stored store_page_of number_read symbol_read read_page_of
 pages_answer = (refl, refl, refl, refl, refl, refl, refl, refl, refl, refl, refl, refl, refl, refl, refl, refl, refl, refl)
 
 -- cell 3 of group 2 wears to 1, and of group 3, which the page does not have; then a page store is refused as worn by group 2, one is refused 5 by

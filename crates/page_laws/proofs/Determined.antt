@@ -17,7 +17,7 @@ use Rattle.plain_machine.specs.Machine.{apply_of}
 use Rattle.rivals.specs.Rivals.{is_worn_or_spent, after, pulses_of}
 use Rattle.page.specs.declared.Page.{Page}
 use Rattle.page.specs.Groups.{all_of}
-use Rattle.page.specs.Pages.{group_at_lem, like_first, is_page}
+use Rattle.page.specs.Pages.{group_at, like_first, is_page}
 use Rattle.page_store.specs.StoreAnswer.{symbol_at, takes, number_stored, AfterStore, store_page_of}
 use Rattle.page_laws.specs.PageLists.{PageCall, on_group, store_page, read_page, PageMachine, among, stands, HoldsGroups, page_step, own_call, after_calls, pulses_of_calls, calls_of, PageDemand3, MeetsPageDemand3}
 use Rattle.page_laws.proofs.Groups.{among_below, of_among, all_same, total_same, FirstAt, first_not}
@@ -28,7 +28,7 @@ use Rattle.page_laws.proofs.Holds.{holds_after}
 -- as many groups, and the same
 pub record SameGroups (p q : Page) : Type 0 where
   pub count : p.count ≡ q.count
-  pub groups : (k : ℕ) → among q.count k ≡ true → group_at_lem p k ≡ group_at_lem q k
+  pub groups : (k : ℕ) → among q.count k ≡ true → group_at p k ≡ group_at q k
 
 module _ {p q : Page} (s : SameGroups p q) where
   holds_same : HoldsGroups q → HoldsGroups p
@@ -40,7 +40,7 @@ module _ {p q : Page} (s : SameGroups p q) where
       rw s.count
       (go q.count (λ i l. s.groups (suc i) (among_below q.count i l)))
     where
-      go : (c : ℕ) → ((i : ℕ) → i < c → group_at_lem p (suc i) ≡ group_at_lem q (suc i))
+      go : (c : ℕ) → ((i : ℕ) → i < c → group_at p (suc i) ≡ group_at q (suc i))
           → (leb 1 c && (leb c 8 && all_of c (like_first p))) ≡ (leb 1 c && (leb c 8 && all_of c (like_first q)))
       go zero f = refl
       go (suc c) f = rw (all_same (like_first p) (like_first q) (suc c) (λ i l. rw (f i l, f 0 (omega arith))))
@@ -151,13 +151,13 @@ module _ (store : PageMachine) (meets : MeetsPageDemand3 store) where
           groups =
               λ k e.
               let inside : among p.count k ≡ true = ap (λ (n : ℕ). among n k) (sym o.as_many) ∙ e in
-              t.groups k inside ∙ ap (after apply_of (group_at_lem p k)) (same_calls k) ∙ sym (o.groups k inside);
+              t.groups k inside ∙ ap (after apply_of (group_at p k)) (same_calls k) ∙ sym (o.groups k inside);
         }
 
     pub same_pulses : pulses_of_calls store p cs ≡ pulses_of_calls store_page_of p cs
     same_pulses =
         (meets p h cs).pulses
-        ∙ total_same _ _ p.count (λ i l. ap (pulses_of apply_of (group_at_lem p (suc i))) (same_calls (suc i)))
+        ∙ total_same _ _ p.count (λ i l. ap (pulses_of apply_of (group_at p (suc i))) (same_calls (suc i)))
         ∙ sym (page_claim p h cs).pulses
 
     pub same_answer : (ss : List ℕ) → let t = store (after_calls store p cs) ss in let o = store_page_of now ss in

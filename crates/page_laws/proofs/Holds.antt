@@ -20,7 +20,7 @@ use Rattle.engine.proofs.Holds.{store_holds, store_reads}
 use Rattle.rivals.proofs.Demand3.{group_after_lem}
 use Rattle.page.specs.declared.Page.{Page}
 use Rattle.page.specs.Groups.{put_each}
-use Rattle.page.specs.Pages.{group_at_lem, like_first, is_page, number_read, symbol_read, symbols_of, unread, read_page_of}
+use Rattle.page.specs.Pages.{group_at, like_first, is_page, number_read, symbol_read, symbols_of, unread, read_page_of}
 use Rattle.page_store.specs.StoreAnswer.{symbol_at, number_stored, all_stored, store_page_of}
 use Rattle.page_store.proofs.Storing.{taken_parts}
 use Rattle.page.proofs.Pages.{page_done}
@@ -35,10 +35,10 @@ pub holds_after : (p : Page) → HoldsGroups p → (cs : List PageCall) → Hold
 holds_after p h cs =
     let now = after_calls store_page_of p cs in
     let same = count_after p cs in
-    of_among now.count (λ k. IsGroup (group_at_lem now k))
+    of_among now.count (λ k. IsGroup (group_at now k))
     (λ i l.
     let m : i < p.count = omega arith in
-    rw (groups_after p cs (room p h) i m) (group_after_lem (group_at_lem p (suc i)) (calls_of store_page_of (suc i) p cs) (h (suc i) (among_below p.count i m))))
+    rw (groups_after p cs (room p h) i m) (group_after_lem (group_at p (suc i)) (calls_of store_page_of (suc i) p cs) (h (suc i) (among_below p.count i m))))
 
 -- ---- what is stored is read
 
@@ -47,20 +47,20 @@ module _ (p : Page) (h : HoldsGroups p) (ss : List ℕ) (z : (store_page_of p ss
   stored = (all_stored p ss).page
 
   -- the store of group i + 1 was accepted
-  accepted : (i : ℕ) → i < p.count → (store_of (group_at_lem p (suc i)) (symbol_at ss (suc i))).number ≡ 0
+  accepted : (i : ℕ) → i < p.count → (store_of (group_at p (suc i)) (symbol_at ss (suc i))).number ≡ 0
   unfolding number_stored
   accepted i l = (through p ss z).1 i l
 
-  group_held : (i : ℕ) → i < p.count → IsGroup (group_at_lem p (suc i))
+  group_held : (i : ℕ) → i < p.count → IsGroup (group_at p (suc i))
   group_held i l = h (suc i) (among_below p.count i l)
 
-  same_n : (i : ℕ) → i < p.count → (group_at_lem stored (suc i)).n ≡ (group_at_lem p (suc i)).n
+  same_n : (i : ℕ) → i < p.count → (group_at stored (suc i)).n ≡ (group_at p (suc i)).n
   same_n i l =
-      rw (group_by_store p (room p h) ss i l) (store_holds (group_at_lem p (suc i)) (symbol_at ss (suc i)) (group_held i l) (accepted i l)).1
+      rw (group_by_store p (room p h) ss i l) (store_holds (group_at p (suc i)) (symbol_at ss (suc i)) (group_held i l) (accepted i l)).1
 
-  reading : (i : ℕ) → i < p.count → ((read_of (group_at_lem stored (suc i))).number ≡ 0) × ((read_of (group_at_lem stored (suc i))).value.symbol ≡ symbol_at ss (suc i))
+  reading : (i : ℕ) → i < p.count → ((read_of (group_at stored (suc i))).number ≡ 0) × ((read_of (group_at stored (suc i))).value.symbol ≡ symbol_at ss (suc i))
   reading i l =
-      let e = store_reads (group_at_lem p (suc i)) (symbol_at ss (suc i)) (group_held i l) (accepted i l) in
+      let e = store_reads (group_at p (suc i)) (symbol_at ss (suc i)) (group_held i l) (accepted i l) in
       rw (group_by_store p (room p h) ss i l) (ap (λ (t : Told Reading). t.number) e, ap (λ (t : Told Reading). t.value.symbol) e)
 
   stored_page : is_page stored ≡ true

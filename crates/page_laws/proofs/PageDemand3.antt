@@ -18,7 +18,7 @@ use Rattle.rivals.specs.Rivals.{is_worn_or_spent, after, pulses_of, plain, Raisa
 use Rattle.rivals.proofs.Demand3.{group_after_lem, demand3}
 use Rattle.page.specs.declared.Page.{Page}
 use Rattle.page.specs.Groups.{total}
-use Rattle.page.specs.Pages.{group_at_lem}
+use Rattle.page.specs.Pages.{group_at}
 use Rattle.page_store.specs.StoreAnswer.{symbol_at, takes, AfterStore, number_stored, store_page_of}
 use Rattle.page_store.proofs.Storing.{store_not}
 use Rattle.page_laws.specs.PageLists.{PageCall, store_page, among, store_call, HoldsGroups, page_step, own_call, after_calls, pulses_of_calls, calls_of, PageDemand3, MeetsPageDemand3}
@@ -68,29 +68,29 @@ room_after p [] r = r
 room_after p (c ∷ cs) r = room_after (stepped p c) cs (omega (arith, step_count p c, step_length p c))
 
 pub groups_after : (p : Page) (cs : List PageCall) → p.count ≤ length p.groups → (i : ℕ) → i < p.count
-    → group_at_lem (after_calls store_page_of p cs) (suc i) ≡ after apply_of (group_at_lem p (suc i)) (calls (suc i) p cs)
+    → group_at (after_calls store_page_of p cs) (suc i) ≡ after apply_of (group_at p (suc i)) (calls (suc i) p cs)
 unfolding after_calls calls_of after
 groups_after p [] r i l = refl
 groups_after p (c ∷ cs) r i l =
     groups_after (stepped p c) cs (omega (arith, step_count p c, step_length p c)) i (omega (arith, step_count p c))
     ∙ ap (λ (g : Group). after apply_of g (calls (suc i) (stepped p c) cs)) (group_step p r c i l)
-    ∙ sym (after_append (group_at_lem p (suc i)) (own_call store_page_of (suc i) p c) (calls (suc i) (stepped p c) cs))
+    ∙ sym (after_append (group_at p (suc i)) (own_call store_page_of (suc i) p c) (calls (suc i) (stepped p c) cs))
 
 pulses_after : (p : Page) (cs : List PageCall) → p.count ≤ length p.groups
-    → pulses_of_calls store_page_of p cs ≡ total p.count (λ k. pulses_of apply_of (group_at_lem p k) (calls k p cs))
+    → pulses_of_calls store_page_of p cs ≡ total p.count (λ k. pulses_of apply_of (group_at p k) (calls k p cs))
 unfolding pulses_of_calls calls_of
-pulses_after p [] r = sym (total_none _ p.count (λ k l. no_calls (group_at_lem p (suc k))))
+pulses_after p [] r = sym (total_none _ p.count (λ k l. no_calls (group_at p (suc k))))
 pulses_after p (c ∷ cs) r =
     let q = stepped p c in
-    let own : ℕ → ℕ = λ k. pulses_of apply_of (group_at_lem p k) (own_call store_page_of k p c) in
-    let rest : ℕ → ℕ = λ k. pulses_of apply_of (group_at_lem q k) (calls k q cs) in
+    let own : ℕ → ℕ = λ k. pulses_of apply_of (group_at p k) (own_call store_page_of k p c) in
+    let rest : ℕ → ℕ = λ k. pulses_of apply_of (group_at q k) (calls k q cs) in
     let later : pulses_of_calls store_page_of q cs ≡ total p.count rest = pulses_after q cs (omega (arith, step_count p c, step_length p c)) ∙ ap (λ (n : ℕ). total n rest) (step_count p c) in
     let both-parts : total p.count (λ k. own k + rest k) ≡ total p.count own + total p.count rest = total_plus own rest p.count in
     omega (arith, pulses_step p c, later, both-parts)
     ∙ total_same (λ k. own k + rest k) _ p.count
     (λ k l.
     ap (λ (g : Group). own (suc k) + pulses_of apply_of g (calls (suc k) q cs)) (group_step p r c k l)
-    ∙ sym (pulses_append (group_at_lem p (suc k)) (own_call store_page_of (suc k) p c) (calls (suc k) q cs)))
+    ∙ sym (pulses_append (group_at p (suc k)) (own_call store_page_of (suc k) p c) (calls (suc k) q cs)))
 
 -- ---- the claim, for a page of groups and a list of calls
 
@@ -98,8 +98,8 @@ module _ (p : Page) (h : HoldsGroups p) (cs : List PageCall) where
   abbrev now : Page
   now = after_calls store_page_of p cs
 
-  own_demand : (k : ℕ) → among p.count k ≡ true → Demand3 apply_of (group_at_lem p k) (calls k p cs)
-  own_demand k e = demand3 (group_at_lem p k) (h k e) (calls k p cs)
+  own_demand : (k : ℕ) → among p.count k ≡ true → Demand3 apply_of (group_at p k) (calls k p cs)
+  own_demand k e = demand3 (group_at p k) (h k e) (calls k p cs)
 
   in_page : (i : ℕ) → i < p.count → i < now.count
   in_page i l = omega (arith, count_after p cs)
@@ -131,15 +131,15 @@ module _ (p : Page) (h : HoldsGroups p) (cs : List PageCall) where
     abbrev own : ℕ → List Call
     own k = own_call store_page_of k now (store_page ss)
 
-    stored_each : told.number ≡ 0 → (k : ℕ) → among p.count k ≡ true → let answer = apply_of (group_at_lem now k) (call k) in
-        (own k ≡ call k ∷ []) × (answer.number ≡ 0) × (answer.value.pulses ≡ rises (group_at_lem now k).levels (group_at_lem told.value.page k).levels)
+    stored_each : told.number ≡ 0 → (k : ℕ) → among p.count k ≡ true → let answer = apply_of (group_at now k) (call k) in
+        (own k ≡ call k ∷ []) × (answer.number ≡ 0) × (answer.value.pulses ≡ rises (group_at now k).levels (group_at told.value.page k).levels)
     stored_each z zero e = absurd (false≢true e)
     stored_each z (suc i) e =
         let t = through now ss z in
         let l = among_true p.count i e in
-        let g = group_at_lem now (suc i) in
-        let new : group_at_lem told.value.page (suc i) ≡ (apply_of g (call (suc i))).value.group = ap (λ (v : AfterStore). group_at_lem v.page (suc i)) t.2 ∙ group_by_call now (room_after p cs (room p h)) ss i (in_page i l) in
-        let twelve : length g.levels ≡ 12 = rw (groups_after p cs (room p h) i l) (group_after_lem (group_at_lem p (suc i)) (calls (suc i) p cs) (h (suc i) e)).levels in (
+        let g = group_at now (suc i) in
+        let new : group_at told.value.page (suc i) ≡ (apply_of g (call (suc i))).value.group = ap (λ (v : AfterStore). group_at v.page (suc i)) t.2 ∙ group_by_call now (room_after p cs (room p h)) ss i (in_page i l) in
+        let twelve : length g.levels ≡ 12 = rw (groups_after p cs (room p h) i l) (group_after_lem (group_at p (suc i)) (calls (suc i) p cs) (h (suc i) e)).levels in (
           own_stands now ss (suc i) (through_stands now ss (suc i) z),
           store_call_number now ss (suc i) ∙ t.1 i (in_page i l),
           sym (apply_rises g (call (suc i)) twelve) ∙ ap (λ (x : Group). rises g.levels x.levels) (sym new),
@@ -166,7 +166,7 @@ module _ (p : Page) (h : HoldsGroups p) (cs : List PageCall) where
 
     named_stuck : is_worn_or_spent told.number ≡ true
         → let k = told.value.group in
-        (among p.count k ≡ true) × (own k ≡ call k ∷ []) × ((apply_of (group_at_lem now k) (call k)).number ≡ told.number) × ((j : ℕ) → j ≢ k → own j ≡ [])
+        (among p.count k ≡ true) × (own k ≡ call k ∷ []) × ((apply_of (group_at now k) (call k)).number ≡ told.number) × ((j : ℕ) → j ≢ k → own j ≡ [])
     named_stuck w =
         let t = stuck_store now ss w in (
           ap (λ (n : ℕ). among n told.value.group) (sym (count_after p cs)) ∙ t.0,
@@ -180,24 +180,24 @@ module _ (p : Page) (h : HoldsGroups p) (cs : List PageCall) where
 
     -- no rival of group k can be raised to show the codeword of its symbol
     abbrev Shut : ℕ → Type 0
-    Shut k = let g = group_at_lem p k in ¬ (Raisable apply_of g (calls k p cs) (target (plain apply_of g g (calls k p cs)) (call k)))
+    Shut k = let g = group_at p k in ¬ (Raisable apply_of g (calls k p cs) (target (plain apply_of g g (calls k p cs)) (call k)))
 
     -- demand 3 of a group of the page: past the earlier checks its store is worn or spent exactly then
-    stuck_shut : (i : ℕ) → i < p.count → number_of (earlier_checks (group_at_lem now (suc i)) (call (suc i))) ≡ 0
-        → (is_worn_or_spent (apply_of (group_at_lem now (suc i)) (call (suc i))).number ≡ true) ↔ Shut (suc i)
+    stuck_shut : (i : ℕ) → i < p.count → number_of (earlier_checks (group_at now (suc i)) (call (suc i))) ≡ 0
+        → (is_worn_or_spent (apply_of (group_at now (suc i)) (call (suc i))).number ≡ true) ↔ Shut (suc i)
     stuck_shut i l e =
         let same = groups_after p cs (room p h) i l in
         rw same ((own_demand (suc i) (among_below p.count i l)).stuck_exactly (call (suc i)) refl (rw same at e))
 
     abbrev StuckAt : ℕ → Type 0
-    StuckAt k = (takes now ss ≡ true) × (among p.count k ≡ true) × Before k × (number_of (earlier_checks (group_at_lem now k) (call k)) ≡ 0) × Shut k
+    StuckAt k = (takes now ss ≡ true) × (among p.count k ≡ true) × Before k × (number_of (earlier_checks (group_at now k) (call k)) ≡ 0) × Shut k
 
     stuck_why : (k : ℕ) → is_worn_or_spent told.number ≡ true → told.value.group ≡ k → StuckAt k
     stuck_why k w d =
         let (i, t) = stuck_first now ss w in
         let l : i < p.count = omega (arith, t.first.below, count_after p cs) in
-        let own : is_worn_or_spent (apply_of (group_at_lem now (suc i)) (call (suc i))).number ≡ true = ap is_worn_or_spent (store_call_number now ss (suc i) ∙ sym t.number) ∙ w in
-        let earlier = stuck_passed (group_at_lem now (suc i)) (symbol_at ss (suc i)) own in
+        let own : is_worn_or_spent (apply_of (group_at now (suc i)) (call (suc i))).number ≡ true = ap is_worn_or_spent (store_call_number now ss (suc i) ∙ sym t.number) ∙ w in
+        let earlier = stuck_passed (group_at now (suc i)) (symbol_at ss (suc i)) own in
         rw (sym d ∙ t.named) (
           t.taken,
           among_below p.count i l,
@@ -217,7 +217,7 @@ module _ (p : Page) (h : HoldsGroups p) (cs : List PageCall) where
   page_claim =
       record {
         as_many = count_after p cs;
-        groups = of_among p.count (λ k. group_at_lem now k ≡ after apply_of (group_at_lem p k) (calls k p cs)) (groups_after p cs (room p h));
+        groups = of_among p.count (λ k. group_at now k ≡ after apply_of (group_at p k) (calls k p cs)) (groups_after p cs (room p h));
         pulses = pulses_after p cs (room p h);
         demand3 = own_demand;
         accepted = λ ss. (each_done ss, λ t. done_each ss t.0 t.1);

@@ -26,7 +26,7 @@ use Rattle.plain_machine.specs.Machine.{apply_of}
 use Rattle.rivals.specs.Rivals.{after, pulses_of}
 use Rattle.page.specs.declared.Page.{Page}
 use Rattle.page.specs.Groups.{total, all_of, put_each, first_refusing}
-use Rattle.page.specs.Pages.{group_at_lem, like_first, is_page, page_answer}
+use Rattle.page.specs.Pages.{group_at, like_first, is_page, page_answer}
 use Rattle.page_store.specs.StoreAnswer.{symbol_at, takes, number_stored, group_stored, pulses_stored, all_stored, none_stored, store_page_of}
 use Rattle.page_laws.specs.PageLists.{PageCall, store_page, PageMachine, among, stands, HoldsGroups, page_step, page_pulses, own_call, after_calls, pulses_of_calls, calls_of, PageDemand3, MeetsPageDemand3}
 use Rattle.page_laws.proofs.Groups.{of_among}
@@ -63,7 +63,7 @@ module _ (g h : Group) where
   two = page (g ∷ h ∷ [])
 
   two_held : IsGroup g → IsGroup h → HoldsGroups two
-  two_held a b = of_two (λ k. IsGroup (group_at_lem two k)) a b
+  two_held a b = of_two (λ k. IsGroup (group_at two k)) a b
 
 abbrev first_low : Page
 first_low = two low blank
@@ -127,13 +127,13 @@ half_way_refuted =
     last_fails half_way []
     (λ d.
     let same = (d.refused (1 ∷ 1 ∷ []) (λ e. omega arith)).0 in
-    let e : ◌≡◌ {A = ℕ} 2 0 = ap (λ (p : Page). level (group_at_lem p 1).levels 3) same in
+    let e : ◌≡◌ {A = ℕ} 2 0 = ap (λ (p : Page). level (group_at p 1).levels 3) same in
     omega arith)
 
 -- one that asks in all groups whether there is such a symbol before it stores in any, as a row of checks over the whole page would
 pub row_first : PageMachine
 row_first p ss =
-    let k = first_refusing p.count (λ j. cond (ltb (symbol_at ss j) (K (group_at_lem p j).n)) 0 5) in
+    let k = first_refusing p.count (λ j. cond (ltb (symbol_at ss j) (K (group_at p j).n)) 0 5) in
     if_done k (store_page_of p ss) (record { number = 5; value = none_stored p k })
 
 pub row_first_refuted : ¬ (MeetsPageDemand3 row_first)
@@ -228,7 +228,7 @@ spender_refuted = last_fails spender [] (λ d. let e : ◌≡◌ {A = ℕ} 3 0 =
 pub tireless : PageMachine
 tireless p ss =
     store_page_of
-    (record { count = p.count; groups = put_each p.count (λ k. with_used (group_at_lem p k) (replicate 12 0)) p.groups })
+    (record { count = p.count; groups = put_each p.count (λ k. with_used (group_at p k) (replicate 12 0)) p.groups })
     ss
 
 pub tireless_refuted : ¬ (MeetsPageDemand3 tireless)

@@ -27,7 +27,7 @@ use Rattle.plain_machine.proofs.Machine.{accept, apply_number, apply_value}
 use Rattle.rivals.specs.Rivals.{Rival, Moves, latest, is_worn_or_spent, after, pulses_of, Course, rest, next}
 use Rattle.page.specs.declared.Page.{Page}
 use Rattle.page.specs.Groups.{total, put_each}
-use Rattle.page.specs.Pages.{group_at_lem}
+use Rattle.page.specs.Pages.{group_at}
 use Rattle.page_store.specs.StoreAnswer.{symbol_at, takes, AfterStore, number_stored, group_stored, pulses_stored, all_stored, none_stored, store_page_of}
 use Rattle.page_store.proofs.Storing.{store_not}
 use Rattle.page.proofs.Pages.{back_one, page_done, page_refused}
@@ -46,7 +46,7 @@ room p h = elim (dec_lt (length p.groups) p.count) [ yes l ↦ absurd (past p.co
     past : (c : ℕ) → p.count ≡ c → length p.groups < c → ⊥
     past zero e l = omega arith
     past (suc i) e l =
-        let default : group_at_lem p (suc i) ≡ no_group = get_or-eq_default p.groups no_group {n = suc i - 1} (omega arith) in
+        let default : group_at p (suc i) ≡ no_group = get_or-eq_default p.groups no_group {n = suc i - 1} (omega arith) in
         no_group_lem (rw default at (h (suc i) (rw e (among_below (suc i) i (omega arith)))))
 
 -- ---- what a page store answers
@@ -76,9 +76,9 @@ module _ (p : Page) (ss : List ℕ) where
           (none_or_first (number_stored p ss) p.count)
 
   -- the store of group k, as a call on it
-  pub store_call_number : (k : ℕ) → (apply_of (group_at_lem p k) (store_call (symbol_at ss k))).number ≡ number_stored p ss k
+  pub store_call_number : (k : ℕ) → (apply_of (group_at p k) (store_call (symbol_at ss k))).number ≡ number_stored p ss k
   unfolding number_stored store_of answer
-  store_call_number k = apply_number (group_at_lem p k) (store_call (symbol_at ss k))
+  store_call_number k = apply_number (group_at p k) (store_call (symbol_at ss k))
 
 -- a refused call leaves the group and carries no pulses
 apply_refused : (g : Group) (c : Call) → (apply_of g c).number ≢ 0 → (apply_of g c).value ≡ quiet g
@@ -90,7 +90,7 @@ pub step_count : (p : Page) (c : PageCall) → (page_step store_page_of p c).cou
 unfolding page_step put_group
 step_count p (on_group k c) = go (among p.count k)
   where
-    go : (b : Bool) → (cond b (put_group p k (apply_of (group_at_lem p k) c).value.group) p).count ≡ p.count
+    go : (b : Bool) → (cond b (put_group p k (apply_of (group_at p k) c).value.group) p).count ≡ p.count
     go true = refl
     go false = refl
 step_count p (store_page ss) = go (answered p ss)
@@ -105,7 +105,7 @@ pub step_length : (p : Page) (c : PageCall) → length (page_step store_page_of 
 unfolding page_step put_group
 step_length p (on_group k c) = go (among p.count k)
   where
-    go : (b : Bool) → length (cond b (put_group p k (apply_of (group_at_lem p k) c).value.group) p).groups ≡ length p.groups
+    go : (b : Bool) → length (cond b (put_group p k (apply_of (group_at p k) c).value.group) p).groups ≡ length p.groups
     go true = length-set p.groups (k - 1) _
     go false = refl
 step_length p (store_page ss) = go (answered p ss)
@@ -165,7 +165,7 @@ module _ (p : Page) (ss : List ℕ) where
 
   -- that is the number of the store, as a call on the group
   pub stuck_store : is_worn_or_spent told.number ≡ true
-      → let k = told.value.group in (among p.count k ≡ true) × ((apply_of (group_at_lem p k) (store_call (symbol_at ss k))).number ≡ told.number)
+      → let k = told.value.group in (among p.count k ≡ true) × ((apply_of (group_at p k) (store_call (symbol_at ss k))).number ≡ told.number)
   stuck_store w =
       let (i, t) = stuck_first w in
       rw t.named (among_below p.count i t.first.below, store_call_number p ss (suc i) ∙ sym t.number)
@@ -203,7 +203,7 @@ module _ (p : Page) (ss : List ℕ) where
       (t.0, eqb-true told.value.group k t.1)
 
   -- its call in the list of a group, if it has one, is refused
-  own_refused : (k : ℕ) → told.number ≢ 0 → stands told k ≡ true → (apply_of (group_at_lem p k) (store_call (symbol_at ss k))).number ≢ 0
+  own_refused : (k : ℕ) → told.number ≢ 0 → stands told k ≡ true → (apply_of (group_at p k) (store_call (symbol_at ss k))).number ≢ 0
   own_refused k r e z =
       let t = stands_as_stuck k r e in
       r (sym (rw t.1 at (stuck_store t.0).1) ∙ z)
@@ -228,9 +228,9 @@ one_stays g q c true r rs z (next {s = s} m rest) = moved_not _ c.kind _ r s (z 
 one_stays g q c false r rs z rest = refl
 
 pub rival_stays : (p : Page) (ss : List ℕ) → (store_page_of p ss).number ≢ 0 → (k : ℕ) (q : Group) (r : Rival) (rs : List Rival)
-    → Course apply_of (group_at_lem p k) q r (own_call store_page_of k p (store_page ss)) rs → latest r rs ≡ r
+    → Course apply_of (group_at p k) q r (own_call store_page_of k p (store_page ss)) rs → latest r rs ≡ r
 unfolding own_call
-rival_stays p ss z k q r rs x = one_stays (group_at_lem p k) q (store_call (symbol_at ss k)) _ r rs (own_refused p ss k z) x
+rival_stays p ss z k q r rs x = one_stays (group_at p k) q (store_call (symbol_at ss k)) _ r rs (own_refused p ss k z) x
 
 pub no_calls : (g : Group) → pulses_of apply_of g [] ≡ 0
 unfolding pulses_of
@@ -241,52 +241,52 @@ no_calls g = refl
 module _ (p : Page) where
   module _ (places : p.count ≤ length p.groups) where
     on_group_lem : (j : ℕ) (c : Call) (i : ℕ) → i < p.count
-        → group_at_lem (page_step store_page_of p (on_group j c)) (suc i) ≡ after apply_of (group_at_lem p (suc i)) (cond (eqb j (suc i)) (c ∷ []) [])
+        → group_at (page_step store_page_of p (on_group j c)) (suc i) ≡ after apply_of (group_at p (suc i)) (cond (eqb j (suc i)) (c ∷ []) [])
     unfolding page_step put_group after
     on_group_lem j c i l =
         ⊎_elim
         (λ t.
         rw (← t.0, among_below p.count i l, eq-eqb (suc i) (suc i) refl)
-        (get_or-set_same p.groups (suc i - 1) (apply_of (group_at_lem p (suc i)) c).value.group no_group (omega arith)))
+        (get_or-set_same p.groups (suc i - 1) (apply_of (group_at p (suc i)) c).value.group no_group (omega arith)))
         (λ t. rw t.1 (other t.0 (among p.count j) refl))
         (eq_cases (suc i) j)
       where
         other : (suc i ≡ j → ⊥) → (b : Bool) → among p.count j ≡ b
-            → group_at_lem (cond b (put_group p j (apply_of (group_at_lem p j) c).value.group) p) (suc i) ≡ group_at_lem p (suc i)
+            → group_at (cond b (put_group p j (apply_of (group_at p j) c).value.group) p) (suc i) ≡ group_at p (suc i)
         other d true e =
             let low = leb-true 1 j (both (leb 1 j) (leb j p.count) e).0 in
             get_or-set_other p.groups (j - 1) (suc i - 1) _ no_group (λ q. d (omega (arith, low)))
         other d false e = refl
 
-    pub group_by_store : (ss : List ℕ) (i : ℕ) → i < p.count → group_at_lem (all_stored p ss).page (suc i) ≡ (store_of (group_at_lem p (suc i)) (symbol_at ss (suc i))).value.group
+    pub group_by_store : (ss : List ℕ) (i : ℕ) → i < p.count → group_at (all_stored p ss).page (suc i) ≡ (store_of (group_at p (suc i)) (symbol_at ss (suc i))).value.group
     unfolding group_stored
     group_by_store ss i l =
         ap (λ (k : ℕ). get_or (put_each p.count (group_stored p ss) p.groups) k no_group) (back_one i)
         ∙ put_at (group_stored p ss) p.groups no_group p.count i places l
 
     pub group_by_call : (ss : List ℕ) (i : ℕ) → i < p.count
-        → group_at_lem (all_stored p ss).page (suc i) ≡ (apply_of (group_at_lem p (suc i)) (store_call (symbol_at ss (suc i)))).value.group
+        → group_at (all_stored p ss).page (suc i) ≡ (apply_of (group_at p (suc i)) (store_call (symbol_at ss (suc i)))).value.group
     unfolding apply_of
     group_by_call ss i l = group_by_store ss i l
 
     pub group_step : (c : PageCall) (i : ℕ) → i < p.count
-        → group_at_lem (page_step store_page_of p c) (suc i) ≡ after apply_of (group_at_lem p (suc i)) (own_call store_page_of (suc i) p c)
+        → group_at (page_step store_page_of p c) (suc i) ≡ after apply_of (group_at p (suc i)) (own_call store_page_of (suc i) p c)
     unfolding page_step own_call after
     group_step (on_group j c) i l = on_group_lem j c i l
     group_step (store_page ss) i l =
         ⊎_elim
         (λ z.
-        ap (λ (v : AfterStore). group_at_lem v.page (suc i)) (through p ss z).2
+        ap (λ (v : AfterStore). group_at v.page (suc i)) (through p ss z).2
         ∙ group_by_call ss i l
-        ∙ ap (λ (b : Bool). after apply_of (group_at_lem p (suc i)) (cond b (store_call (symbol_at ss (suc i)) ∷ []) [])) (sym (through_stands p ss (suc i) z)))
+        ∙ ap (λ (b : Bool). after apply_of (group_at p (suc i)) (cond b (store_call (symbol_at ss (suc i)) ∷ []) [])) (sym (through_stands p ss (suc i) z)))
         (λ r.
-        let same = (one_refused (group_at_lem p (suc i)) (store_call (symbol_at ss (suc i))) _ (own_refused p ss (suc i) r)).0 in
-        ap (λ (q : Page). group_at_lem q (suc i)) (kept p ss r).0 ∙ sym same)
+        let same = (one_refused (group_at p (suc i)) (store_call (symbol_at ss (suc i))) _ (own_refused p ss (suc i) r)).0 in
+        ap (λ (q : Page). group_at q (suc i)) (kept p ss r).0 ∙ sym same)
         (zero_or (store_page_of p ss).number)
     group_step read_page i l = refl
 
   on_pulses : (j : ℕ) (c : Call) (b : Bool) → among p.count j ≡ b
-      → cond b (apply_of (group_at_lem p j) c).value.pulses 0 ≡ total p.count (λ k. pulses_of apply_of (group_at_lem p k) (cond (eqb j k) (c ∷ []) []))
+      → cond b (apply_of (group_at p j) c).value.pulses 0 ≡ total p.count (λ k. pulses_of apply_of (group_at p k) (cond (eqb j k) (c ∷ []) []))
   unfolding pulses_of
   on_pulses zero c true e = absurd (false≢true e)
   on_pulses (suc i) c true e =
@@ -298,11 +298,11 @@ module _ (p : Page) where
       (total_none _ p.count
       (λ k l. rw (ne_eqb j (suc k) (λ q. absurd (false≢true (sym e ∙ ap (among p.count) q ∙ among_below p.count k l))))))
 
-  stored_pulses : (ss : List ℕ) (k : ℕ) → pulses_stored p ss k ≡ pulses_of apply_of (group_at_lem p k) (store_call (symbol_at ss k) ∷ [])
+  stored_pulses : (ss : List ℕ) (k : ℕ) → pulses_stored p ss k ≡ pulses_of apply_of (group_at p k) (store_call (symbol_at ss k) ∷ [])
   unfolding apply_of pulses_stored pulses_of
   stored_pulses ss k = sym (add-zero _)
 
-  pub pulses_step : (c : PageCall) → page_pulses store_page_of p c ≡ total p.count (λ k. pulses_of apply_of (group_at_lem p k) (own_call store_page_of k p c))
+  pub pulses_step : (c : PageCall) → page_pulses store_page_of p c ≡ total p.count (λ k. pulses_of apply_of (group_at p k) (own_call store_page_of k p c))
   unfolding page_pulses own_call
   pulses_step (on_group j c) = on_pulses j c (among p.count j) refl
   pulses_step (store_page ss) =
@@ -312,6 +312,6 @@ module _ (p : Page) where
       ∙ total_same (pulses_stored p ss) _ p.count (λ k l. rw (through_stands p ss (suc k) z) (stored_pulses ss (suc k))))
       (λ r.
       (kept p ss r).1
-      ∙ sym (total_none _ p.count (λ k l. (one_refused (group_at_lem p (suc k)) (store_call (symbol_at ss (suc k))) _ (own_refused p ss (suc k) r)).1)))
+      ∙ sym (total_none _ p.count (λ k l. (one_refused (group_at p (suc k)) (store_call (symbol_at ss (suc k))) _ (own_refused p ss (suc k) r)).1)))
       (zero_or (store_page_of p ss).number)
-  pulses_step read_page = sym (total_none _ p.count (λ k l. no_calls (group_at_lem p (suc k))))
+  pulses_step read_page = sym (total_none _ p.count (λ k l. no_calls (group_at p (suc k))))

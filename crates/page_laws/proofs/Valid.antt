@@ -28,7 +28,7 @@ use Rattle.plain_machine.specs.Machine.{apply_of}
 use Rattle.rivals.specs.Rivals.{after}
 use Rattle.rivals.proofs.Valid.{first_store}
 use Rattle.page.specs.declared.Page.{Page}
-use Rattle.page.specs.Pages.{group_at_lem, like_first, is_page}
+use Rattle.page.specs.Pages.{group_at, like_first, is_page}
 use Rattle.page_store.specs.StoreAnswer.{symbol_at, takes, number_stored, all_stored, none_stored, store_page_of}
 use Rattle.page_store.proofs.Storing.{is_taken}
 use Rattle.page.proofs.Pages.{page_done}
@@ -50,13 +50,13 @@ opened_page_of n e c done l m =
       opens = done;
       least = l;
       most = m;
-      groups = of_among c (λ k. group_at_lem p k ≡ (open_of n e).value) (λ i b. get_or-replicate 8 (suc i - 1) (open_of n e).value no_group (omega arith));
+      groups = of_among c (λ k. group_at p k ≡ (open_of n e).value) (λ i b. get_or-replicate 8 (suc i - 1) (open_of n e).value no_group (omega arith));
     }
 
 -- ---- the first page store goes through
 
 -- records with one n are a page
-like_all : (p : Page) → 1 ≤ p.count → p.count ≤ 8 → (n : ℕ) → ((i : ℕ) → i < p.count → (group_at_lem p (suc i)).n ≡ n) → is_page p ≡ true
+like_all : (p : Page) → 1 ≤ p.count → p.count ≤ 8 → (n : ℕ) → ((i : ℕ) → i < p.count → (group_at p (suc i)).n ≡ n) → is_page p ≡ true
 unfolding is_page like_first
 like_all p l m n h =
     rw (le-leb 1 p.count l, le-leb p.count 8 m)
@@ -69,7 +69,7 @@ module _ (n e : ℕ) (p : Page) (o : OpenedPage n e p) where
       let sized = check_held (is_size n) Size _ (told_accepted (open_checks n e) (opened n e) no_group o.opens).0 in
       (sized.0, (check_held (is_endurance e) Endurance [] sized.1).0)
 
-  opened_at : (i : ℕ) → i < p.count → group_at_lem p (suc i) ≡ opened n e
+  opened_at : (i : ℕ) → i < p.count → group_at p (suc i) ≡ opened n e
   unfolding open_of
   opened_at i l = o.groups (suc i) (among_below p.count i l) ∙ (told_accepted (open_checks n e) (opened n e) no_group o.opens).1
 
@@ -135,7 +135,7 @@ module _
     abbrev found : Bool → Group
     found here = cond here g (opened n e)
 
-    group_now : (j : ℕ) → j < p.count → group_at_lem now (suc j) ≡ found (eqb (suc i) (suc j))
+    group_now : (j : ℕ) → j < p.count → group_at now (suc j) ≡ found (eqb (suc i) (suc j))
     unfolding after
     group_now j l =
         groups_after p (alone (suc i) cs) (room p (opened_holds n e p o)) j l
@@ -147,12 +147,12 @@ module _
 
     here_refuses : number_stored now ss (suc i) ≡ number
     here_refuses =
-        let group : group_at_lem now (suc i) ≡ g = group_now i inside ∙ ap found (eq-eqb (suc i) (suc i) refl) in
+        let group : group_at now (suc i) ≡ g = group_now i inside ∙ ap found (eq-eqb (suc i) (suc i) refl) in
         sym (store_call_number now ss (suc i)) ∙ rw group refuses
 
     others_take : (j : ℕ) → j < p.count → j ≢ i → number_stored now ss (suc j) ≡ 0
     others_take j l d =
-        let group : group_at_lem now (suc j) ≡ opened n e = group_now j l ∙ ap found (ne_eqb (suc i) (suc j) (λ q. d (omega arith))) in
+        let group : group_at now (suc j) ≡ opened n e = group_now j l ∙ ap found (ne_eqb (suc i) (suc j) (λ q. d (omega arith))) in
         let r = ranges n e p o in
         sym (store_call_number now ss (suc j)) ∙ rw group (first_store n e r.0 r.1 enough (symbol_at ss (suc j)) (there_at j l))
 

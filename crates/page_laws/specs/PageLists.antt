@@ -32,7 +32,7 @@ use Rattle.plain_machine.specs.Machine.{target, earlier_checks, apply_of}
 use Rattle.rivals.specs.Rivals.{Rival, latest, is_worn_or_spent, after, pulses_of, Course, plain, Raisable, Demand3}
 use Rattle.page.specs.declared.Page.{Page}
 use Rattle.page.specs.Groups.{total}
-use Rattle.page.specs.Pages.{group_at_lem}
+use Rattle.page.specs.Pages.{group_at}
 use Rattle.page_store.specs.StoreAnswer.{symbol_at, takes, number_stored, AfterStore}
 
 pub data PageCall : Type 0 where
@@ -56,22 +56,22 @@ abbrev pub store_call : ℕ → Call
 store_call s = record { kind = Store s; target = plain_target no_order }
 
 abbrev pub HoldsGroups : Page → Type 0
-HoldsGroups p = (k : ℕ) → among p.count k ≡ true → IsGroup (group_at_lem p k)
+HoldsGroups p = (k : ℕ) → among p.count k ≡ true → IsGroup (group_at p k)
 
 pub record OpenedPage (n e : ℕ) (p : Page) : Type 0 where
   pub opens : (open_of n e).number ≡ 0
   pub least : 1 ≤ p.count
   pub most : p.count ≤ 8
-  pub groups : (k : ℕ) → among p.count k ≡ true → group_at_lem p k ≡ (open_of n e).value
+  pub groups : (k : ℕ) → among p.count k ≡ true → group_at p k ≡ (open_of n e).value
 
 module _ (store : PageMachine) where
   unfoldable pub page_step : Page → PageCall → Page
-  page_step p (on_group k c) = cond (among p.count k) (put_group p k (apply_of (group_at_lem p k) c).value.group) p
+  page_step p (on_group k c) = cond (among p.count k) (put_group p k (apply_of (group_at p k) c).value.group) p
   page_step p (store_page ss) = (store p ss).value.page
   page_step p read_page = p
 
   unfoldable pub page_pulses : Page → PageCall → ℕ
-  page_pulses p (on_group k c) = cond (among p.count k) (apply_of (group_at_lem p k) c).value.pulses 0
+  page_pulses p (on_group k c) = cond (among p.count k) (apply_of (group_at p k) c).value.pulses 0
   page_pulses p (store_page ss) = (store p ss).value.pulses
   page_pulses p read_page = 0
 
@@ -96,21 +96,21 @@ module _ (store : PageMachine) where
     -- the page has as many groups as before
     pub as_many : (after_calls p cs).count ≡ p.count
     -- group k of the page is what the plain machine makes of its own list
-    pub groups : (k : ℕ) → among p.count k ≡ true → group_at_lem (after_calls p cs) k ≡ after apply_of (group_at_lem p k) (calls_of k p cs)
+    pub groups : (k : ℕ) → among p.count k ≡ true → group_at (after_calls p cs) k ≡ after apply_of (group_at p k) (calls_of k p cs)
     -- the answers' pulses add up to what the answers in the groups' own lists add up to
-    pub pulses : pulses_of_calls p cs ≡ total p.count (λ k. pulses_of apply_of (group_at_lem p k) (calls_of k p cs))
+    pub pulses : pulses_of_calls p cs ≡ total p.count (λ k. pulses_of apply_of (group_at p k) (calls_of k p cs))
     -- demand 3 holds of each group with its own list
-    pub demand3 : (k : ℕ) → among p.count k ≡ true → Demand3 apply_of (group_at_lem p k) (calls_of k p cs)
+    pub demand3 : (k : ℕ) → among p.count k ≡ true → Demand3 apply_of (group_at p k) (calls_of k p cs)
     -- a page store that comes next goes through exactly when there is one symbol a group of a page and no group refuses its own
     pub accepted : (ss : List ℕ) → let now = after_calls p cs in
         ((store now ss).number ≡ 0) ↔ ((takes now ss ≡ true) × ((k : ℕ) → among p.count k ≡ true → number_stored now ss k ≡ 0))
     -- it is then one more accepted store in the list of each group, with the group's own rises as the pulses of that answer
     pub went_through : (ss : List ℕ) → let now = after_calls p cs in
         (store now ss).number ≡ 0 → (k : ℕ) → among p.count k ≡ true
-        → let c = store_call (symbol_at ss k) in let answer = apply_of (group_at_lem now k) c in
+        → let c = store_call (symbol_at ss k) in let answer = apply_of (group_at now k) c in
         (own_call k now (store_page ss) ≡ c ∷ [])
         × (answer.number ≡ 0)
-        × (answer.value.pulses ≡ rises (group_at_lem now k).levels (group_at_lem (store now ss).value.page k).levels)
+        × (answer.value.pulses ≡ rises (group_at now k).levels (group_at (store now ss).value.page k).levels)
     -- where it is no page, or there is not one symbol a group, it is refused 16 and names none
     pub no_page : (ss : List ℕ) → let now = after_calls p cs in takes now ss ≡ false → ((store now ss).number ≡ 16) × ((store now ss).value.group ≡ 0)
     -- else group k refuses it, with that group's own number, where that one refuses its own and none before it does
@@ -123,13 +123,13 @@ module _ (store : PageMachine) where
     -- and it leaves all rivals unchanged: whatever it is in the list of group k, a rival of that group stays where it stands
     pub rivals_stay : (ss : List ℕ) → let now = after_calls p cs in
         (store now ss).number ≢ 0 → (k : ℕ) → among p.count k ≡ true → (q : Group) (r : Rival) (rs : List Rival)
-        → Course apply_of (group_at_lem now k) q r (own_call k now (store_page ss)) rs → latest r rs ≡ r
+        → Course apply_of (group_at now k) q r (own_call k now (store_page ss)) rs → latest r rs ≡ r
     -- refused as worn or as spent, it is such a store in the list of the group that it names, and in that list alone
     pub stuck_named : (ss : List ℕ) → let now = after_calls p cs in let k = (store now ss).value.group in let c = store_call (symbol_at ss k) in
         is_worn_or_spent (store now ss).number ≡ true
         → (among p.count k ≡ true)
         × (own_call k now (store_page ss) ≡ c ∷ [])
-        × ((apply_of (group_at_lem now k) c).number ≡ (store now ss).number)
+        × ((apply_of (group_at now k) c).number ≡ (store now ss).number)
         × ((j : ℕ) → j ≢ k → own_call j now (store_page ss) ≡ [])
     -- refused otherwise, it stands in no list
     pub in_no_list : (ss : List ℕ) → let now = after_calls p cs in
@@ -137,12 +137,12 @@ module _ (store : PageMachine) where
     -- it is refused as worn or as spent with group k exactly when there is one symbol a group of a page, no group before k refuses its own, group k passes
     -- the earlier checks, and no rival of group k so far can be raised to show the symbol's codeword within the caps and the endurance
     pub stuck_exactly : (ss : List ℕ) (k : ℕ)
-        → let now = after_calls p cs in let g = group_at_lem p k in let own = calls_of k p cs in let c = store_call (symbol_at ss k) in
+        → let now = after_calls p cs in let g = group_at p k in let own = calls_of k p cs in let c = store_call (symbol_at ss k) in
         ((is_worn_or_spent (store now ss).number ≡ true) × ((store now ss).value.group ≡ k))
         ↔ ((takes now ss ≡ true)
         × (among p.count k ≡ true)
         × ((j : ℕ) → among (k - 1) j ≡ true → number_stored now ss j ≡ 0)
-        × (number_of (earlier_checks (group_at_lem now k) c) ≡ 0)
+        × (number_of (earlier_checks (group_at now k) c) ≡ 0)
         × (¬ (Raisable apply_of g own (target (plain apply_of g g own) c))))
 
   abbrev pub MeetsPageDemand3 : Type 0

@@ -21,7 +21,7 @@ use Rattle.push_up.specs.WriteAnswer.{Program, told_written}
 use Rattle.engine.specs.ReadStore.{store_of}
 use Rattle.page.specs.declared.Page.{Page}
 use Rattle.page.specs.Groups.{total, put_each, first_refusing}
-use Rattle.page.specs.Pages.{group_at_lem, is_page}
+use Rattle.page.specs.Pages.{group_at, is_page}
 use Rattle.page.proofs.Groups.{none_next}
 use Rattle.page.proofs.Pages.{back_one, group_at_lem, page_not, page_done, page_refused, page_most}
 use Rattle.page_store.specs.StoreAnswer.{symbol_at, takes, number_stored, group_stored, pulses_stored, all_stored, none_stored, store_page_of}
@@ -66,7 +66,7 @@ store_start {p} {ss} w e =
 
 module _ {p : Page} {ss : List ℕ} {groups : List Group} {pulses k : ℕ} (h : StoredTo p ss groups pulses k) where
   module _ (l : k < p.count) (a : Written) (d : Group) (e : told_written a ≡ store_of (get_or p.groups k d) (get_or ss k 0)) where
-    store_same : told_written a ≡ store_of (group_at_lem p (suc k)) (symbol_at ss (suc k))
+    store_same : told_written a ≡ store_of (group_at p (suc k)) (symbol_at ss (suc k))
     store_same = e ∙ rw (group_at_lem p k d (omega (arith, h.long, h.most)), symbol_at_lem ss k)
 
     store_number : number_stored p ss (suc k) ≡ outcome_number a.outcome

@@ -14,7 +14,7 @@ use Rattle.group.specs.declared.Group.{Group}
 use Rattle.engine.specs.ReadStore.{store_of}
 use Rattle.page.specs.declared.Page.{Page}
 use Rattle.page.specs.Groups.{total, put_each}
-use Rattle.page.specs.Pages.{group_at_lem, is_page, page_answer}
+use Rattle.page.specs.Pages.{group_at, is_page, page_answer}
 use Rattle.page_store.specs.declared.PageStored.{PageStored}
 
 abbrev pub symbol_at : List ℕ → ℕ → ℕ
@@ -24,13 +24,13 @@ unfoldable pub takes : Page → List ℕ → Bool
 takes p ss = is_page p && eqb (length ss) p.count
 
 unfoldable pub number_stored : Page → List ℕ → ℕ → ℕ
-number_stored p ss k = (store_of (group_at_lem p k) (symbol_at ss k)).number
+number_stored p ss k = (store_of (group_at p k) (symbol_at ss k)).number
 
 unfoldable pub group_stored : Page → List ℕ → ℕ → Group
-group_stored p ss k = (store_of (group_at_lem p k) (symbol_at ss k)).value.group
+group_stored p ss k = (store_of (group_at p k) (symbol_at ss k)).value.group
 
 unfoldable pub pulses_stored : Page → List ℕ → ℕ → ℕ
-pulses_stored p ss k = (store_of (group_at_lem p k) (symbol_at ss k)).value.pulses
+pulses_stored p ss k = (store_of (group_at p k) (symbol_at ss k)).value.pulses
 
 pub record AfterStore : Type 0 where
   pub group : ℕ

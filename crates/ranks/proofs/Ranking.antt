@@ -15,7 +15,7 @@ use Rattle.order.specs.Cells.{place_from, place_of, tabulate}
 use Rattle.order.proofs.Cells.{IsOrder, lt_cases}
 use Rattle.order.proofs.Tabulate.{tabulate_ext, tabulate_set}
 use Rattle.order.proofs.Numbers.{cell}
-use Rattle.ranks.specs.Steps.{with_cell_lem}
+use Rattle.ranks.specs.Steps.{with_cell}
 use Rattle.order.proofs.Sweep.{Downto, Turn, turn_by, met_low, met_high, down_none, down_more, drop_none, met_down}
 
 place_same : (p x : ℕ) (xs : List ℕ) → place_from p (x ∷ xs) x ≡ p
@@ -82,6 +82,6 @@ module _ {A : Type 0} (wrap : ℕ → A) where
 
 -- cell c is stored at the place of its rank, where it has one
 pub placed_cell : {xs : List ℕ} {ys : List Cell} {len c x : ℕ} → Turn (Placed cell xs len ys c) xs c x
-    → {rank : Rank} {next : Cell} → rank.0 ≡ x → next.0 ≡ c → Placed cell xs len (with_cell_lem ys rank next) (c - 1)
-unfolding with_cell_lem
+    → {rank : Rank} {next : Cell} → rank.0 ≡ x → next.0 ≡ c → Placed cell xs len (with_cell ys rank next) (c - 1)
+unfolding with_cell
 placed_cell t a b = let e = ap cell b in rw (a, e) (placed_more cell t)

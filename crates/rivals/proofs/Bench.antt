@@ -7,7 +7,7 @@ use mathlib.Core.List.{[], ◌∷◌}
 use mathlib.Core.Option.{none, some}
 use Rattle.order.specs.Refusals as refusals
 use Rattle.coordinates.specs.Coordinates.{coordinate_of, coordinates_to, weight, order_from}
-use Rattle.decoder.specs.Decoding.{leaves, is_codeword, first_below_lem, correction}
+use Rattle.decoder.specs.Decoding.{leaves, is_codeword, first_below, correction}
 use Rattle.code.specs.declared.Verdict.TheVariants.{Clean}
 use Rattle.code.specs.Words.{joined, select, same, index_of, vectors_from, vectors, words, K, word_at, word_number, symbol_of}
 use Rattle.code.specs.Symbols.{word_of, reading_at}
@@ -39,5 +39,5 @@ pub case_printed :
     × (apply_of stored (call (Leak (cell 3) 1)) ≡ done (step leaky 0 none 0 []))
     × (apply_of leaky (call Scrub) ≡ done (step scrubbed 1 (some Clean) 1 (push 3 1 2 ∷ [])))
     × (apply_of scrubbed (call Read) ≡ done (step scrubbed 1 (some Clean) 0 []))
-unfolding refusals.answer refusals.number_of level put leaked at_most tallied all_at_most is_row singles top floor_over lift raise push_of rank_pushes pushes pulses_in raised fits lasts pushed open_of leak_of store_of scrub_of apply_of word_of order_from K word_at words vectors vectors_from joined select leaves weight stands_above insert sorted sensed read_of reading_at correction first_below_lem is_codeword symbol_of word_number index_of same coordinates_to coordinate_of
+unfolding refusals.answer refusals.number_of level put leaked at_most tallied all_at_most is_row singles top floor_over lift raise push_of rank_pushes pushes pulses_in raised fits lasts pushed open_of leak_of store_of scrub_of apply_of word_of order_from K word_at words vectors vectors_from joined select leaves weight stands_above insert sorted sensed read_of reading_at correction first_below is_codeword symbol_of word_number index_of same coordinates_to coordinate_of
 case_printed = (refl, refl, refl, refl, refl)

@@ -15,7 +15,7 @@ use Rattle.order.specs.Refusals.{number_of, Told, answer}
 use Rattle.order.specs.Cells.{tabulate, each_once, is_order, all_zero, is_listing}
 use Rattle.order.specs.Order.{cell_numbers, is_order_of, order_record}
 use Rattle.coordinates.specs.Coordinates.{coordinate_of, coordinates_to, weight}
-use Rattle.decoder.specs.Decoding.{leaves, is_codeword, first_below_lem, correction}
+use Rattle.decoder.specs.Decoding.{leaves, is_codeword, first_below, correction}
 use Rattle.group.specs.Levels.{level, put, AtMost, at_most, sum, rises, tallied}
 use Rattle.push_up.specs.PushUp.{singles, top, floor_over, Reach, Shows, lift, raise, push_of, rank_pushes, pushes, pulses_in}
 use Rattle.group.specs.declared.Group.{Group}
@@ -27,7 +27,7 @@ use Rattle.engine.specs.ReadStore.{read_of}
 use Rattle.group.proofs.Levels.{at_most_true, at_most_level}
 use Rattle.plain_machine.specs.declared.Kind.{Kind}
 use Rattle.plain_machine.specs.declared.Kind.TheVariants.{Write, WriteInto, WriteShared, WriteSharedInto, Store, Scrub, Leak, Wear, Erase, Read}
-use Rattle.sharing.specs.Shared.{each_filled, is_sizes, by_number_lem, ranks_of, write_shared_of, plain_target}
+use Rattle.sharing.specs.Shared.{each_filled, is_sizes, by_number, ranks_of, write_shared_of, plain_target}
 use Rattle.plain_machine.specs.declared.Call.{Call}
 use Rattle.engine.specs.Scrub.{Step, quiet}
 use Rattle.plain_machine.specs.Machine.{writes, target, apply_of}
@@ -226,7 +226,7 @@ unfolding spoiler after plain plain_after apply_of write_of answer pushed rises 
 spoiler_refuted = fails spoiler (call ∷ []) (λ d. let e : ◌≡◌ {A = ℕ} 1 0 = d.handed call in omega arith)
 
 pub forgetter_refuted : ¬ (MeetsDemand3 forgetter)
-unfolding forgetter after plain plain_after read_of sensed sorted insert stands_above correction first_below_lem is_codeword leaves weight coordinates_to coordinate_of apply_of write_of answer pushed rises tallied number_of is_row all_at_most order_record cell_numbers is_order_of is_listing is_order each_once all_zero fits lasts raised raise lift singles floor_over top level put at_most
+unfolding forgetter after plain plain_after read_of sensed sorted insert stands_above correction first_below is_codeword leaves weight coordinates_to coordinate_of apply_of write_of answer pushed rises tallied number_of is_row all_at_most order_record cell_numbers is_order_of is_listing is_order each_once all_zero fits lasts raised raise lift singles floor_over top level put at_most
 forgetter_refuted = fails forgetter (call ∷ []) (λ d. let e : ◌≡◌ {A = ℕ} 6 0 = d.handed read_call in omega arith)
 
 -- two that go wrong at a shared write, here of cells 1 and 2 above cell 3: one sets the mark, so that a read finds a symbol where the plain machine is blank; one
@@ -238,7 +238,7 @@ pub keeper : Machine
 keeper = otherwise (λ g c. altered (λ h. with_mark true h) (λ k. k))
 
 pub keeper_refuted : ¬ (MeetsDemand3 keeper)
-unfolding keeper after plain plain_after read_of sensed sorted insert stands_above correction first_below_lem is_codeword leaves weight coordinates_to coordinate_of apply_of write_shared_of sum each_filled is_sizes by_number_lem ranks_of answer pushed rises tallied number_of is_row all_at_most order_record cell_numbers is_order_of is_listing is_order each_once all_zero fits lasts raised raise lift floor_over top level put at_most
+unfolding keeper after plain plain_after read_of sensed sorted insert stands_above correction first_below is_codeword leaves weight coordinates_to coordinate_of apply_of write_shared_of sum each_filled is_sizes by_number ranks_of answer pushed rises tallied number_of is_row all_at_most order_record cell_numbers is_order_of is_listing is_order each_once all_zero fits lasts raised raise lift floor_over top level put at_most
 keeper_refuted = fails keeper (shared_call ∷ []) (λ d. let e : ◌≡◌ {A = ℕ} 0 6 = d.handed read_call in omega arith)
 
 unfoldable pub stacker : Machine
@@ -248,7 +248,7 @@ abbrev shared_course : Rival
 shared_course = record { levels = 1 ∷ 1 ∷ 0 ∷ replicate 9 0; caps = start.caps; used = 1 ∷ 1 ∷ 0 ∷ replicate 9 0; endurance = 1000000; pulses = 2 }
 
 pub stacker_refuted : ¬ (MeetsDemand3 stacker)
-unfolding stacker flatten latest after plain_after entrant Moves Follows apply_of write_shared_of sum each_filled is_sizes by_number_lem ranks_of answer pushed rises tallied number_of is_row all_at_most order_record cell_numbers is_order_of is_listing is_order each_once all_zero fits lasts raised raise lift singles floor_over top level put at_most Shows Reach
+unfolding stacker flatten latest after plain_after entrant Moves Follows apply_of write_shared_of sum each_filled is_sizes by_number ranks_of answer pushed rises tallied number_of is_row all_at_most order_record cell_numbers is_order_of is_listing is_order each_once all_zero fits lasts raised raise lift singles floor_over top level put at_most Shows Reach
 stacker_refuted =
     fails stacker (shared_call ∷ [])
     (λ d.

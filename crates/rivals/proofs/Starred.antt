@@ -8,7 +8,7 @@ use Rattle.coordinates.specs.Coordinates.{coordinate_of, coordinates_to, weight,
 use Rattle.coordinates.specs.Conversion.{coordinates_of, coordinates_of_order}
 use Rattle.distance.specs.Distance.{distance_of}
 use Rattle.cost.specs.Cost.{displacement, displacements, larger_of, largest, cost, displacements_of, cost_of}
-use Rattle.decoder.specs.Decoding.{leaves, is_codeword, first_below_lem, correction}
+use Rattle.decoder.specs.Decoding.{leaves, is_codeword, first_below, correction}
 use Rattle.code.specs.Words.{joined, select, same, index_of, vectors_from, vectors, words, K, word_at, word_number, symbol_of}
 use Rattle.code.specs.Symbols.{word_of, codeword_of, reading_at, decode_of}
 use Rattle.group.specs.Levels.{level, put, at_most, tallied}
@@ -22,5 +22,5 @@ use Rattle.engine.specs.Scrub.{scrub_of}
 use Rattle.rivals.specs.Starred.{EachRight, starred}
 
 pub starred_hold : EachRight starred
-unfolding refusals.answer refusals.number_of each_once is_order all_zero is_order_of is_listing place_from place_of cell_numbers order_record coordinate_of coordinates_to order_from coordinates_of coordinates_of_order distance_of displacement displacements larger_of largest cost displacements_of cost_of joined select same index_of vectors_from weight leaves vectors words K word_at word_number is_codeword first_below_lem correction symbol_of word_of codeword_of reading_at decode_of level put at_most tallied all_at_most is_row singles top floor_over lift raise push_of rank_pushes pushes pulses_in raised fits lasts pushed write_of stands_above insert sorted sensed sense_of read_of store_of scrub_of
+unfolding refusals.answer refusals.number_of each_once is_order all_zero is_order_of is_listing place_from place_of cell_numbers order_record coordinate_of coordinates_to order_from coordinates_of coordinates_of_order distance_of displacement displacements larger_of largest cost displacements_of cost_of joined select same index_of vectors_from weight leaves vectors words K word_at word_number is_codeword first_below correction symbol_of word_of codeword_of reading_at decode_of level put at_most tallied all_at_most is_row singles top floor_over lift raise push_of rank_pushes pushes pulses_in raised fits lasts pushed write_of stands_above insert sorted sensed sense_of read_of store_of scrub_of
 starred_hold = (refl, (refl, (refl, (refl, (refl, (refl, (refl, (refl, (refl, (refl, (refl, (refl, (refl, (refl, (refl, (refl, (refl, (refl, (refl, (refl, (refl, (refl, (refl, (refl, (refl, (refl, (refl, (refl, (refl, tt)))))))))))))))))))))))))))))

@@ -5,7 +5,7 @@ use mathlib.Core.Path.{◌≡◌, refl}
 use mathlib.Core.List.{List, [], ◌∷◌}
 use Rattle.order.specs.Refusals as refusals
 use Rattle.coordinates.specs.Coordinates.{coordinate_of, coordinates_to, weight, order_from}
-use Rattle.decoder.specs.Decoding.{leaves, is_codeword, first_below_lem, correction}
+use Rattle.decoder.specs.Decoding.{leaves, is_codeword, first_below, correction}
 use Rattle.code.specs.Words.{joined, select, same, index_of, vectors_from, vectors, words, K, word_at, word_number, symbol_of}
 use Rattle.code.specs.Symbols.{word_of, reading_at}
 use Rattle.group.specs.Levels.{level, put, at_most, tallied, leaked}
@@ -42,5 +42,5 @@ text =
     ∷ []
 
 pub example_printed : text_of example ≡ text
-unfolding refusals.answer refusals.number_of level put leaked tallied at_most all_at_most is_row singles top floor_over lift raise push_of rank_pushes pushes pulses_in raised fits lasts pushed open_of leak_of store_of scrub_of apply_of word_of order_from K word_at words vectors vectors_from joined select leaves weight stands_above insert sorted sensed read_of reading_at correction first_below_lem is_codeword symbol_of word_number index_of same coordinates_to coordinate_of record_at records unused_zero request_of step_of spelled decimal numbers_of line_of lines all_pulses left_line sum_line text_of
+unfolding refusals.answer refusals.number_of level put leaked tallied at_most all_at_most is_row singles top floor_over lift raise push_of rank_pushes pushes pulses_in raised fits lasts pushed open_of leak_of store_of scrub_of apply_of word_of order_from K word_at words vectors vectors_from joined select leaves weight stands_above insert sorted sensed read_of reading_at correction first_below is_codeword symbol_of word_number index_of same coordinates_to coordinate_of record_at records unused_zero request_of step_of spelled decimal numbers_of line_of lines all_pulses left_line sum_line text_of
 example_printed = refl

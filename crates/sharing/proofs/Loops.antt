@@ -27,7 +27,7 @@ use Rattle.push_up.proofs.Orders.{order_cells}
 use Rattle.push_up.proofs.Pushes.{cells_above, few_pushes}
 use Rattle.push_up.proofs.OneMore.{rank_opened, cell_up_lem, cells_on, bounded}
 use Rattle.sharing.specs.declared.Ranked.{Ranked}
-use Rattle.sharing.specs.Shared.{sizes_of, each_filled, is_sizes, is_listed, by_number_lem, ranks_of}
+use Rattle.sharing.specs.Shared.{sizes_of, each_filled, is_sizes, is_listed, by_number, ranks_of}
 use Rattle.sharing.specs.Steps.{is_place, part, Flags, rank_up, PushesFit}
 use Rattle.sharing.proofs.Targets.{sizes_true, number_none, number_in, number_out, number_length, listed_or_not, apart_to, ranks_apart, ranks_above}
 
@@ -116,8 +116,8 @@ pub record Above (n : ℕ) (r : List ℕ) (rs : List (List ℕ)) (old : List ℕ
   pub low : (i : ℕ) → get_or old i 0 ≤ 4095
   pub ranks : length rs < 12
   pub cells : cells_on rs + length r ≤ 12
-  pub apart : (c : ℕ) → c ≤ n → Apart 12 (by_number_lem c r ∷ rs)
-  pub few : (c : ℕ) → is_listed (suc c) r ≡ true → cells_above (by_number_lem c r ∷ rs) < 11
+  pub apart : (c : ℕ) → c ≤ n → Apart 12 (by_number c r ∷ rs)
+  pub few : (c : ℕ) → is_listed (suc c) r ≡ true → cells_above (by_number c r ∷ rs) < 11
 
 module _ {n : ℕ} {r : List ℕ} {rs : List (List ℕ)} {old : List ℕ} (a : Above n r rs old) (on : List ℕ) (marks : Flags on r) where
   abbrev below : PushUp
@@ -129,21 +129,21 @@ module _ {n : ℕ} {r : List ℕ} {rs : List (List ℕ)} {old : List ℕ} (a : A
   unmarked : (c : ℕ) → is_listed (suc c) r ≡ false → get_or on c 0 ≡ 0
   unmarked c e = marks c ∙ ap tally e
 
-  short : (c : ℕ) → is_listed (suc c) r ≡ true → length (pushes 1 (by_number_lem c r ∷ rs) old) < 11
-  short c e = omega (arith, few_pushes 1 old (by_number_lem c r ∷ rs), a.few c e)
+  short : (c : ℕ) → is_listed (suc c) r ≡ true → length (pushes 1 (by_number c r ∷ rs) old) < 11
+  short c e = omega (arith, few_pushes 1 old (by_number c r ∷ rs), a.few c e)
 
-  off : (c : ℕ) → suc c ≤ n → is_listed (suc c) r ≡ true → OffAll (suc c) (by_number_lem c r ∷ rs)
+  off : (c : ℕ) → suc c ≤ n → is_listed (suc c) r ≡ true → OffAll (suc c) (by_number c r ∷ rs)
   unfolding Apart
   off c l e = (rw (number_in c r e) at (a.apart (suc c) l)).0.0.1
 
-  pub rank_up : (c : ℕ) → c ≤ n → rank_up c on old below ≡ push_up_to 1 (by_number_lem c r ∷ rs) old
+  pub rank_up : (c : ℕ) → c ≤ n → rank_up c on old below ≡ push_up_to 1 (by_number c r ∷ rs) old
   unfolding rank_up push_up_to
   rank_up zero l = rw (number_none r) (sym (rank_opened 1 rs old))
   rank_up (suc c) l =
       ⊎_elim
       (λ e.
       rw (marked c e, rank_up c (omega arith), number_in c r e, ← level_next old c)
-      (cell_up_lem 1 (record { 0 = suc c }) (by_number_lem c r) rs old (omega (arith, a.twelve, a.small)) (off c l e) (short c e)))
+      (cell_up_lem 1 (record { 0 = suc c }) (by_number c r) rs old (omega (arith, a.twelve, a.small)) (off c l e) (short c e)))
       (λ e. rw (unmarked c e, number_out c r e) (rank_up c (omega arith)))
       (listed_or_not (suc c) r)
 
@@ -152,7 +152,7 @@ module _ {n : ℕ} {r : List ℕ} {rs : List (List ℕ)} {old : List ℕ} (a : A
   rank_fits c l e =
       let listed : is_listed (suc c) r ≡ true = ⊎_elim (λ t. t) (λ t. absurd (omega (arith, unmarked c t))) (listed_or_not (suc c) r) in
       rw (rank_up c (omega arith))
-      ((bounded 1 (omega arith) old a.low (by_number_lem c r ∷ rs) (omega (arith, a.ranks)) (omega (arith, a.cells, number_length c r))).pulses, short c listed)
+      ((bounded 1 (omega arith) old a.low (by_number c r ∷ rs) (omega (arith, a.ranks)) (omega (arith, a.cells, number_length c r))).pulses, short c listed)
 
 -- ---- the ranks, from the lowest
 
@@ -178,12 +178,12 @@ ranks_cells n [] xs = omega arith
 ranks_cells n (s ∷ ss) xs = omega (arith, ranks_cells n ss (drop s xs), number_length n (take s xs), length-take s xs, length-drop s xs)
 
 above_few : (n c size : ℕ) (ts ys : List ℕ) → Each (λ s. 1 ≤ s) ts → length ys ≡ size + sum ts → length ys ≤ 12 → is_listed (suc c) (take size ys) ≡ true
-    → cells_above (by_number_lem c (take size ys) ∷ ranks_of n ts (drop size ys)) < 11
+    → cells_above (by_number c (take size ys) ∷ ranks_of n ts (drop size ys)) < 11
 unfolding ranks_of
 above_few n c size [] ys p e l q = omega arith
 above_few n c size (t ∷ ts) ys p e l q =
     let rest = ranks_above n t ts (drop size ys) p (omega (arith, length-drop size ys, e)) in
-    let here : length (by_number_lem (suc c) (take size ys)) ≡ suc (length (by_number_lem c (take size ys))) = ap length (number_in c (take size ys) q) in
+    let here : length (by_number (suc c) (take size ys)) ≡ suc (length (by_number c (take size ys))) = ap length (number_in c (take size ys) q) in
     omega (arith, rest, here, number_length (suc c) (take size ys), length-take size ys, length-drop size ys, e, l)
 
 -- a target of n cells, with rank sizes ss and cells xs, and the old levels

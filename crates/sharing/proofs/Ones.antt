@@ -26,7 +26,7 @@ use Rattle.push_up.specs.WriteAnswer.{Program, push_checks, pushed, unpushed, wr
 use Rattle.push_up.proofs.Orders.{CellsOf, order_cells, cells_tail, first_low, first_high}
 use Rattle.push_up.proofs.Writes.{push_group}
 use Rattle.sharing.specs.declared.Ranked.{Ranked}
-use Rattle.sharing.specs.Shared.{sizes_of, each_filled, is_sizes, is_listed, by_number_lem, ranks_of, shared_target, ranked_checks, shared_checks, write_shared_of, ones_target, unmarked}
+use Rattle.sharing.specs.Shared.{sizes_of, each_filled, is_sizes, is_listed, by_number, ranks_of, shared_target, ranked_checks, shared_checks, write_shared_of, ones_target, unmarked}
 use Rattle.sharing.proofs.Targets.{number_none, number_in, number_out}
 
 -- ---- what it leaves
@@ -46,11 +46,11 @@ listed_self c = rw (eq-eqb c c refl)
 listed_other : (d c : ℕ) → (d ≡ c → ⊥) → is_listed d (c ∷ []) ≡ false
 listed_other d c q = rw (ne_eqb d c q)
 
-number_under : (n c : ℕ) → suc n ≤ c → by_number_lem n (c ∷ []) ≡ []
+number_under : (n c : ℕ) → suc n ≤ c → by_number n (c ∷ []) ≡ []
 number_under zero c l = number_none (c ∷ [])
 number_under (suc n) c l = number_out n (c ∷ []) (listed_other (suc n) c (λ e. omega (arith, e))) ∙ number_under n c (omega arith)
 
-number_self : (n c : ℕ) → 1 ≤ c → c ≤ n → by_number_lem n (c ∷ []) ≡ c ∷ []
+number_self : (n c : ℕ) → 1 ≤ c → c ≤ n → by_number n (c ∷ []) ≡ c ∷ []
 number_self zero c l h = absurd (omega arith)
 number_self (suc n) c l h =
     ⊎_elim

@@ -19,7 +19,7 @@ use Rattle.push_up.proofs.Minimal.{Each, Off, OffAll, Fresh, Apart}
 use Rattle.push_up.proofs.Orders.{TargetOf, order_cells}
 use Rattle.push_up.proofs.Pushes.{cells_above}
 use Rattle.sharing.specs.declared.Ranked.{Ranked}
-use Rattle.sharing.specs.Shared.{sizes_of, each_filled, is_sizes, is_listed, by_number_lem, ranks_of, shared_target}
+use Rattle.sharing.specs.Shared.{sizes_of, each_filled, is_sizes, is_listed, by_number, ranks_of, shared_target}
 
 -- ---- sizes
 
@@ -47,18 +47,18 @@ sizes_true n t e =
 pub listed_count : (c : ℕ) (r : List ℕ) → is_listed c r ≡ true → 1 ≤ count c r
 listed_count c r e = leb-true 1 (count c r) e
 
-pub number_none : (r : List ℕ) → by_number_lem 0 r ≡ []
-unfolding by_number_lem
+pub number_none : (r : List ℕ) → by_number 0 r ≡ []
+unfolding by_number
 number_none r = refl
 
 -- with one cell more, listed or not
 module _ (n : ℕ) (r : List ℕ) where
-  pub number_in : is_listed (suc n) r ≡ true → by_number_lem (suc n) r ≡ suc n ∷ by_number_lem n r
-  unfolding by_number_lem
+  pub number_in : is_listed (suc n) r ≡ true → by_number (suc n) r ≡ suc n ∷ by_number n r
+  unfolding by_number
   number_in e = rw e
 
-  pub number_out : is_listed (suc n) r ≡ false → by_number_lem (suc n) r ≡ by_number_lem n r
-  unfolding by_number_lem
+  pub number_out : is_listed (suc n) r ≡ false → by_number (suc n) r ≡ by_number n r
+  unfolding by_number
   number_out e = rw e
 
 pub listed_or_not : (c : ℕ) (r : List ℕ) → (is_listed c r ≡ true) ⊎ (is_listed c r ≡ false)
@@ -69,19 +69,19 @@ listed_or_not c r = go (is_listed c r) refl
     go false e = inr e
 
 -- what holds of every listed cell up to n holds of each
-each_number : (P : ℕ → Type 0) (n : ℕ) (r : List ℕ) → ((m : ℕ) → m < n → is_listed (suc m) r ≡ true → P (suc m)) → Each P (by_number_lem n r)
+each_number : (P : ℕ → Type 0) (n : ℕ) (r : List ℕ) → ((m : ℕ) → m < n → is_listed (suc m) r ≡ true → P (suc m)) → Each P (by_number n r)
 each_number P zero r f = rw (number_none r) tt
 each_number P (suc n) r f =
     ⊎_elim (λ e. rw (number_in n r e) (f n (omega arith) e, each_number P n r (λ m l. f m (omega arith))))
     (λ e. rw (number_out n r e) (each_number P n r (λ m l. f m (omega arith)))) (listed_or_not (suc n) r)
 
-number_below : (n : ℕ) (r : List ℕ) → length (by_number_lem n r) ≤ below (suc n) r
+number_below : (n : ℕ) (r : List ℕ) → length (by_number n r) ≤ below (suc n) r
 number_below zero r = rw (number_none r) (omega arith)
 number_below (suc n) r =
     ⊎_elim (λ e. rw (number_in n r e) (omega (arith, number_below n r, below_suc (suc n) r, listed_count (suc n) r e)))
     (λ e. rw (number_out n r e) (omega (arith, number_below n r, below_suc (suc n) r))) (listed_or_not (suc n) r)
 
-pub number_length : (n : ℕ) (r : List ℕ) → length (by_number_lem n r) ≤ length r
+pub number_length : (n : ℕ) (r : List ℕ) → length (by_number n r) ≤ length r
 number_length n r = omega (arith, number_below n r, below_le (suc n) r)
 
 -- ---- the ranks of a list
@@ -92,7 +92,7 @@ count_split c (suc s) [] = refl
 count_split c (suc s) (x ∷ xs) = omega (arith, count_split c s xs)
 
 -- a cell that is not in the list is on no rank
-off_number : (d n : ℕ) (r : List ℕ) → 1 ≤ d → count d r ≡ 0 → Off d (by_number_lem n r)
+off_number : (d n : ℕ) (r : List ℕ) → 1 ≤ d → count d r ≡ 0 → Off d (by_number n r)
 off_number d n r l z =
     each_number (λ c. c - 1 ≢ d - 1) n r
     (λ m k e q.
@@ -106,7 +106,7 @@ off_ranks d n (s ∷ ss) xs l z =
     (off_number d n (take s xs) l (omega (arith, count_split d s xs)), off_ranks d n ss (drop s xs) l (omega (arith, count_split d s xs)))
 
 -- the cells of a rank up to a number, above other ranks that have none of them
-number_fresh : (m n : ℕ) (r : List ℕ) (rs : List (List ℕ)) → n ≤ m → ((d : ℕ) → 1 ≤ d → 1 ≤ count d r → OffAll d rs) → Fresh m (by_number_lem n r) rs
+number_fresh : (m n : ℕ) (r : List ℕ) (rs : List (List ℕ)) → n ≤ m → ((d : ℕ) → 1 ≤ d → 1 ≤ count d r → OffAll d rs) → Fresh m (by_number n r) rs
 number_fresh m zero r rs l f = rw (number_none r) tt
 number_fresh m (suc n) r rs l f =
     ⊎_elim
@@ -121,7 +121,7 @@ number_fresh m (suc n) r rs l f =
 module _ (n : ℕ) where
   -- up to a number c of the first one
   pub apart_to : (c s : ℕ) (ss xs : List ℕ) → c ≤ n → ((d : ℕ) → count d xs ≤ 1) → Apart n (ranks_of n ss (drop s xs))
-      → Apart n (by_number_lem c (take s xs) ∷ ranks_of n ss (drop s xs))
+      → Apart n (by_number c (take s xs) ∷ ranks_of n ss (drop s xs))
   unfolding Apart
   apart_to c s ss xs h once a =
       (number_fresh n c (take s xs) _ h (λ d p q. off_ranks d n ss (drop s xs) p (omega (arith, count_split d s xs, once d))), a)

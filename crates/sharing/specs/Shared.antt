@@ -5,7 +5,7 @@
 --   each_filled ss       each of these sizes is at least 1
 --   is_sizes n t         the target lists rank sizes of n cells: no more than there are places, each at least 1, adding up to n, and zeros past them
 --   is_listed c r        cell c is one of r
---   by_number_lem n r        those of the cells 1 to n that are listed in r, the greatest number first. The cell listed last on a rank is pushed first (push_up,
+--   by_number n r        those of the cells 1 to n that are listed in r, the greatest number first. The cell listed last on a rank is pushed first (push_up,
 --                       specs PushUp): so cells within a rank are pushed in rising cell number, whichever way the target lists them
 --   ranks_of n ss xs     the cells of each rank: the list xs in parts of the sizes ss, each by number
 --   shared_target n t    the cells of each rank of a target, the highest rank first
@@ -45,13 +45,13 @@ is_sizes n t = leb t.count 12 && (each_filled (sizes_of t) && (eqb (sum (sizes_o
 abbrev pub is_listed : ℕ → List ℕ → Bool
 is_listed c r = leb 1 (count c r)
 
-unfoldable pub by_number_lem : ℕ → List ℕ → List ℕ
-by_number_lem zero r = []
-by_number_lem (suc n) r = cond (is_listed (suc n) r) (suc n ∷ by_number_lem n r) (by_number_lem n r)
+unfoldable pub by_number : ℕ → List ℕ → List ℕ
+by_number zero r = []
+by_number (suc n) r = cond (is_listed (suc n) r) (suc n ∷ by_number n r) (by_number n r)
 
 unfoldable pub ranks_of : ℕ → List ℕ → List ℕ → List (List ℕ)
 ranks_of n [] xs = []
-ranks_of n (s ∷ ss) xs = by_number_lem n (take s xs) ∷ ranks_of n ss (drop s xs)
+ranks_of n (s ∷ ss) xs = by_number n (take s xs) ∷ ranks_of n ss (drop s xs)
 
 abbrev pub shared_target : ℕ → Ranked → List (List ℕ)
 shared_target n t = ranks_of n (sizes_of t) (listed t.cells)

@@ -8,16 +8,16 @@ use lib.ListN.{length}
 use lib.Seq.{set_out}
 use borrow.Author.Tests.{lt-ltb, le-ltb}
 use Rattle.order.proofs.Numbers.{length_mapped}
-use Rattle.ranks.specs.Steps.{with_cell_lem}
+use Rattle.ranks.specs.Steps.{with_cell}
 use Rattle.ranks.proofs.with_cell_ranked.Statement.{statement}
 use Rattle.ranks.proofs.with_cell_ranked.Tie as tie
 
 returns : tie.Need-returns
-unfolding with_cell_lem
+unfolding with_cell
 returns c = rw (lt-ltb c.before.before.args.rank.0 1 (omega (arith, c.before.number.ensures)))
 
 returns_2 : tie.Need-returns-2
-unfolding with_cell_lem
+unfolding with_cell
 returns_2 c =
     let a = c.before.before.before.args in
     let k = c.before.before.number.ensures in
@@ -25,7 +25,7 @@ returns_2 c =
     rw (le-ltb a.rank.0 1 (omega (arith, k))) (sym (set_out a.cells (a.rank.0 - 1) _ (omega (arith, k))))
 
 returns-3 : tie.Need-returns-3
-unfolding with_cell_lem
+unfolding with_cell
 returns-3 c =
     let a = c.before.before.before.args in
     let k = c.before.before.number.ensures in
