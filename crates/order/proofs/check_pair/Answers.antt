@@ -1,6 +1,4 @@
 -- `order::check_pair` meets its contract: the first order's checks decide first.
-use borrow.Author.Rules.{rules}
-use borrow.Author.Tests.{not-true, not-false}
 use mathlib.Core.Path.{◌≡◌, sym, ◌∙◌}
 use Rattle.order.specs.Refusals.{number_of}
 use Rattle.order.specs.Order.{order_checks}

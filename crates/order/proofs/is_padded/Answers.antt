@@ -1,10 +1,7 @@
 -- `order::is_padded` meets its contract. The loop's invariant: `over` is 0 where the numbers up to place `i` are padded.
-use borrow.Author.Rules.{rules}
-use Prim.Native.Nat.{◌-◌}
 use mathlib.Core.Path.{refl}
-use Rattle.order.specs.Order.{cell_numbers}
 use Rattle.order.proofs.Numbers.{length_mapped, length_places, place_at}
-use Rattle.order.proofs.Spare.{PaddedTo, padded_none, padded_more, padded_end}
+use Rattle.order.proofs.Spare.{padded_none, padded_more, padded_end}
 use Rattle.order.proofs.is_padded.Goals as goal
 
 pub loop-i-init : goal.loop-i-init

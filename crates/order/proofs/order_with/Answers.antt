@@ -1,9 +1,5 @@
 -- `order::order_with` meets its contract. The loop's invariant: the first `i` numbers are in place.
-use borrow.Author.Rules.{rules}
-use Prim.Native.Nat.{◌-◌}
-use native.Mathlib.Omega.{arith}
-use lib.ListN.{length}
-use Rattle.order.proofs.Filling.{Filled, filled_none, filled_more, filled_all}
+use Rattle.order.proofs.Filling.{filled_all}
 use Rattle.order.proofs.order_with.Goals as goal
 
 pub returns : goal.returns
