@@ -1,6 +1,8 @@
 // The ranks of the cells in an order (document 01, "Cells, ranks, levels"): an order's inverse, and back.
 // Every public function takes any value and answers it by one equation with a definition of specs/. Proved besides: an order and its
 // ranks undo each other, both ways (proofs/Determine).
+#![tactic(auto)]
+
 ghost use Rattle.std.specs.Prelude.{◌≡◌, true, ◌≤◌, drop};
 ghost use Rattle.order.specs.Cells.{is_order, all_zero};
 ghost use Rattle.order.specs.Order.{listed, told_order};
@@ -10,13 +12,13 @@ ghost use Rattle.ranks.specs.Steps.{with_cell};
 use order::{Cell, Order, OrderAnswer, Outcome, Rank, Refusal};
 
 // The rank of cell c at index c - 1. Indices from `len` on hold `Rank(0)`.
-#[derive(Drop)]
+#[derive(Clone, Copy)]
 pub struct Ranks {
     pub len: usize,
     pub ranks: [Rank; 12],
 }
 
-#[derive(Drop)]
+#[derive(Clone, Copy)]
 pub struct RanksAnswer {
     pub outcome: Outcome,
     pub ranks: Ranks,

@@ -1,0 +1,11 @@
+-- `ranks::cells_by_sweep` meets its contract. The loop's invariant: the ranks of the cells above `c` have their cells, the others 0.
+use Rattle.order.proofs.Numbers.{cell}
+use Rattle.ranks.specs.Ranks.{rank_numbers}
+use Rattle.ranks.proofs.Ranking.{Placed}
+use Rattle.ranks.proofs.cells_by_sweep.Given as goal
+
+abbrev pub invariant-loop-c : goal.invariant-loop-c
+invariant-loop-c l = Placed cell (rank_numbers l.r) l.r.len l.cells l.c
+
+abbrev pub decreases-loop-c : goal.decreases-loop-c
+decreases-loop-c l = l.c
