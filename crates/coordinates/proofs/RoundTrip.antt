@@ -4,7 +4,7 @@
 use Prim.Native.Nat.{ℕ, zero, suc, ◌+◌, ◌-◌, ◌≤◌, ◌<◌}
 use native.Mathlib.Nat.{not-suc-le-zero, le_of_suc-le-suc, eq-or-lt_of_le}
 use native.Mathlib.Omega.{arith}
-use mathlib.Core.Path.{◌≡◌, refl, sym, ap, ap₂, ◌∙◌}
+use mathlib.Core.Path.{◌≡◌, refl, sym, ap, ap₂, subst, ◌∙◌}
 use mathlib.Core.Bool.{true}
 use mathlib.Core.Logic.{⊎_elim}
 use mathlib.Core.List.{List, [], ◌∷◌, ◌++◌}
@@ -142,7 +142,9 @@ order_back zero xs o = sym (drop_of_length-le xs {i = 0} (omega (arith, o.size))
 order_back (suc n) xs o = go (parted (suc n) xs (omega (arith, order_count (suc n) xs o n (omega arith)))) (λ ys r. order_back n ys r)
   where
     go : Parted (suc n) xs → ((ys : List ℕ) → IsOrder n ys → order_from (coordinate_of ys) n ≡ ys) → order_from (coordinate_of xs) (suc n) ≡ xs
-    go p back = rw p.whole (back_step n p.front p.back (rw p.whole at o) p.first (back (p.front ++ p.back)))
+    go p back =
+        let o' : IsOrder (suc n) (p.front ++ suc n ∷ p.back) = subst (λ (ys : List ℕ). IsOrder (suc n) ys) p.whole o in
+        subst (λ (ys : List ℕ). order_from (coordinate_of ys) (suc n) ≡ ys) (sym p.whole) (back_step n p.front p.back o' p.first (back (p.front ++ p.back)))
 
 module _ (x : ℕ → ℕ) where
   -- the order of coordinates is an order

@@ -2,6 +2,8 @@
 // of given coordinates as definitions, which the crate `insertion` meets. Every public function takes any value and answers it by one equation with a
 // definition of specs/. Proved besides: coordinates are in range, and coordinates and order determine each other, both ways (proofs/Determine); what each
 // place adds to a sweep, and that a sweep of all places holds the coordinates of the order, and their weighted sum (proofs/Sweeping).
+#![tactic(auto)]
+
 ghost use Rattle.std.specs.Prelude.{◌≡◌, true, cond, ◌-◌, ◌*◌, ◌%◌, ◌^◌, ◌≤◌, ◌<◌, ltb, set};
 ghost use Rattle.std.specs.Int.Count.{ones};
 ghost use Rattle.order.specs.Cells.{is_order};
@@ -12,26 +14,26 @@ ghost use Rattle.coordinates.specs.Sweep.{sweep_of, told_sweep, sweep_of_order};
 use order::{Order, Outcome};
 
 // Coordinate i at index i - 1. Indices from `len` on hold 0.
-#[derive(Drop)]
+#[derive(Clone, Copy)]
 pub struct Coordinates {
     pub len: usize,
     pub values: [u8; 11],
 }
 
-#[derive(Drop)]
+#[derive(Clone, Copy)]
 pub struct CoordinatesAnswer {
     pub outcome: Outcome,
     pub coordinates: Coordinates,
 }
 
 // What a sweep over an order holds: the coordinates of the cells met, 0 for the others, and their weighted sum.
-#[derive(Drop)]
+#[derive(Clone, Copy)]
 pub struct Sweep {
     pub coordinates: Coordinates,
     pub sum: u32,
 }
 
-#[derive(Drop)]
+#[derive(Clone, Copy)]
 pub struct SweepAnswer {
     pub outcome: Outcome,
     pub sweep: Sweep,
