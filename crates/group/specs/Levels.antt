@@ -8,7 +8,7 @@
 --   rises xs ys      the sum of the rises from the first levels to the second
 --   tallied us xs ys   the used pulses us, with each cell's own rise from the first levels to the second added
 --   leaked c d ls    the level of cell c falls by d, but not below 0
-use Rattle.std.specs.Prelude.{ℕ, ◌+◌, ◌-◌, ◌≤◌, Bool, true, false, ◌&&◌, List, [], ◌∷◌, set, nat_le, slice_index, slice_set}
+use Rattle.std.specs.Prelude.{ℕ, ◌+◌, ◌-◌, ◌≤◌, Bool, true, false, ◌&&◌, List, [], ◌∷◌, nat_le, slice_index, slice_set}
 
 unfoldable pub level : List ℕ → ℕ → ℕ
 level ls c = slice_index ls (c - 1)
