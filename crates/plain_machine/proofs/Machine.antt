@@ -109,9 +109,9 @@ module _ (list : List (Bool × Refusal)) (g : Group) where
       go zero = refl
       go (suc k) = refl
 
-  after_read : (r : Reading) → after_read g (answer list r no_reading) ≡ answer list (read_step g r) (quiet g)
+  after_read_lem : (r : Reading) → after_read g (answer list r no_reading) ≡ answer list (read_step g r) (quiet g)
   unfolding answer
-  after_read r = go (number_of list)
+  after_read_lem r = go (number_of list)
     where
       go : (k : ℕ) → ◌≡◌ {A = Told Step} (record { number = k; value = read_step g (if_done k r no_reading) }) (record { number = k; value = if_done k (read_step g r) (quiet g) })
       go zero = refl
@@ -128,7 +128,7 @@ apply_by_lem g a Scrub = refl
 apply_by_lem g a (Leak c d) = after_change_lem (cell_checks g c) g _
 apply_by_lem g a (Wear c cap) = after_change_lem (wear_checks g c cap) g _
 apply_by_lem g a Erase = after_change_lem (group_checks g) g _
-apply_by_lem g a Read = after_read (read_checks g) g _
+apply_by_lem g a Read = after_read_lem (read_checks g) g _
 
 pub apply_number : (g : Group) (c : Call) → (apply_of g c).number ≡ number_of (checks g c)
 unfolding apply_of answer

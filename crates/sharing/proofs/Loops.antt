@@ -136,22 +136,22 @@ module _ {n : ℕ} {r : List ℕ} {rs : List (List ℕ)} {old : List ℕ} (a : A
   unfolding Apart
   off c l e = (rw (number_in c r e) at (a.apart (suc c) l)).0.0.1
 
-  pub rank_up : (c : ℕ) → c ≤ n → rank_up c on old below ≡ push_up_to 1 (by_number c r ∷ rs) old
+  pub rank_up_lem : (c : ℕ) → c ≤ n → rank_up c on old below ≡ push_up_to 1 (by_number c r ∷ rs) old
   unfolding rank_up push_up_to
-  rank_up zero l = rw (number_none r) (sym (rank_opened 1 rs old))
-  rank_up (suc c) l =
+  rank_up_lem zero l = rw (number_none r) (sym (rank_opened 1 rs old))
+  rank_up_lem (suc c) l =
       ⊎_elim
       (λ e.
-      rw (marked c e, rank_up c (omega arith), number_in c r e, ← level_next old c)
+      rw (marked c e, rank_up_lem c (omega arith), number_in c r e, ← level_next old c)
       (cell_up_lem 1 (record { 0 = suc c }) (by_number c r) rs old (omega (arith, a.twelve, a.small)) (off c l e) (short c e)))
-      (λ e. rw (unmarked c e, number_out c r e) (rank_up c (omega arith)))
+      (λ e. rw (unmarked c e, number_out c r e) (rank_up_lem c (omega arith)))
       (listed_or_not (suc c) r)
 
   pub rank_fits : PushesFit n on old below
   unfolding push_up_to
   rank_fits c l e =
       let listed : is_listed (suc c) r ≡ true = ⊎_elim (λ t. t) (λ t. absurd (omega (arith, unmarked c t))) (listed_or_not (suc c) r) in
-      rw (rank_up c (omega arith))
+      rw (rank_up_lem c (omega arith))
       ((bounded 1 (omega arith) old a.low (by_number c r ∷ rs) (omega (arith, a.ranks)) (omega (arith, a.cells, number_length c r))).pulses, short c listed)
 
 -- ---- the ranks, from the lowest
@@ -306,7 +306,7 @@ module _ {n : ℕ} {ss xs old : List ℕ} {p : PushUp} {k end : ℕ} (r : Raised
           base = b;
           left = omega (arith, r.left);
           at = omega (arith, parts);
-          sofar = e ∙ rw (r.sofar, next_sizes, after) (rw as_many at (rank_up next_above on marks n (omega arith)));
+          sofar = e ∙ rw (r.sofar, next_sizes, after) (rw as_many at (rank_up_lem next_above on marks n (omega arith)));
         }
 
 pub raised_all : {n : ℕ} {ss xs old : List ℕ} {p : PushUp} {k end : ℕ} → RaisedFrom n ss xs old p k end → k ≤ 0 → p ≡ push_up_to 1 (ranks_of n ss xs) old
