@@ -1,5 +1,7 @@
 // The order of given coordinates (document 01, "Coordinates and distance": they determine the order), by insertion. The public function takes any
 // record and answers it by one equation with a definition of `coordinates`, which has its laws too.
+#![tactic(auto)]
+
 ghost use Rattle.std.specs.Prelude.{◌≡◌, true, ◌≤◌};
 ghost use Rattle.order.specs.Refusals.{outcome_number, number_of};
 ghost use Rattle.order.specs.Order.{told_order};
