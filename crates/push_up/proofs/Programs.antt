@@ -1,7 +1,7 @@
 -- The push program of a minimal push-up is a program from the old levels to the new ones, for any gap and any ranks that list no cell twice; so is
 -- the one that the answer to a write carries. By one relation, `Runs`; that no cell is pushed twice, by counts.
 -- Assumes nothing.
-use Rattle.std.proofs.Common.{◌≡◌, ℕ, ◌+◌, ◌-◌, ◌<◌, ◌≤◌, max, Bool, eqb, List, [], ◌∷◌, ◌++◌, length, sym, refl, ap, ◌∙◌, ⊎_elim, zero-le, arith, take_at, le-leb}
+use Rattle.std.proofs.Common.{◌≡◌, ℕ, ◌+◌, ◌-◌, ◌<◌, ◌≤◌, max, Bool, eqb, List, [], ◌∷◌, ◌++◌, length, sym, refl, ap, ◌∙◌, subst, ⊎_elim, zero-le, arith, take_at, le-leb}
 use mathlib.Core.List.{map-append}
 use native.Mathlib.Nat.{le-max_left}
 use Rattle.order.specs.Cells.{tally, count, is_cell}
@@ -114,7 +114,7 @@ module _ (c n : ℕ) where
   fresh_once (d ∷ ds) rs a l =
       ⊎_elim
       (λ t.
-      let here : ((1 ≤ c) × (c ≤ n)) × OffAll c (ds ∷ rs) = rw t.0 at a.0 in
+      let here : ((1 ≤ c) × (c ≤ n)) × OffAll c (ds ∷ rs) = subst (λ (x : ℕ). ((1 ≤ x) × (x ≤ n)) × OffAll x (ds ∷ rs)) t.0 a.0 in
       omega (arith, off_all_none c (ds ∷ rs) here.1, tally-le (eqb c d), cell_tally n c here.0))
       (λ t. omega (arith, tally-ne d c t.0, fresh_once ds rs a.1 l)) (eq_cases d c)
 

@@ -3,6 +3,8 @@
 // below every set of levels that does both (proofs/Minimal); its program, applied push by push to the old levels, gives the new ones, each push starts
 // from where its cell then stands, no cell is pushed twice, and the pulses are the sum of all rises (proofs/Programs); after a write a group is still a
 // group (proofs/Writes). The functions here hold levels to caps and used pulses to the endurance, and make the answer of a call that writes nothing.
+#![tactic(auto)]
+
 ghost use Rattle.std.specs.Prelude.{◌≡◌, []};
 ghost use Rattle.order.specs.Refusals.{outcome_number};
 ghost use Rattle.group.specs.Levels.{at_most};
@@ -15,7 +17,7 @@ use order::{Cell, Outcome};
 const LOW_BITS: u32 = 2147483647;
 
 // A cell that rises, the level that it starts from and the level that it reaches.
-#[derive(Drop)]
+#[derive(Clone, Copy)]
 pub struct Push {
     pub cell: Cell,
     pub start: u16,
@@ -23,7 +25,7 @@ pub struct Push {
 }
 
 // The answer of a call that writes a target: the pushes are the first count places, from low to high.
-#[derive(Drop)]
+#[derive(Clone, Copy)]
 pub struct Written {
     pub outcome: Outcome,
     pub group: Group,
@@ -33,7 +35,7 @@ pub struct Written {
 }
 
 // A minimal push-up, cell by cell from the lowest rank. A cell of the next rank would be raised to the floor, if it is below.
-#[derive(Drop)]
+#[derive(Clone, Copy)]
 pub struct PushUp {
     pub levels: [u16; 12],
     pub floor: u16,
@@ -43,7 +45,7 @@ pub struct PushUp {
 }
 
 // The used pulses after a write, and whether the endurance lasts for them; where it does not, they are as they were.
-#[derive(Drop)]
+#[derive(Clone, Copy)]
 pub struct Tallies {
     pub lasting: bool,
     pub used: [u32; 12],
