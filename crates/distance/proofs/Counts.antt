@@ -92,7 +92,7 @@ same_count f {u = x ∷ u} {v} s =
     let e = (placed x v (omega (arith, s.same x, count_head x u))).split in
     let l = take (p - 1) v in
     let r = drop p v in
-    omega (arith, ap (count_if f) e, count_if_split f l x r, same_count f (same_rest l r s e))
+    omega (arith, ap (count_if f) e, count_if_split f l x r, same_count f {u = u} (same_rest l r s e))
 
 pub same_sym : {u v : List ℕ} → SameCells u v → SameCells v u
 same_sym s = record { same = λ c. sym (s.same c) }

@@ -2,6 +2,8 @@
 // The public function takes any two records and answers them by one equation with a definition of specs/. Proved besides:
 // the distance is the least number of neighbour exchanges (proofs/Theorems), and one exchange changes one coordinate by one
 // (proofs/OneCoordinate).
+#![tactic(auto)]
+
 ghost use Rattle.std.specs.Prelude.{◌≡◌, ◌-◌, ◌≤◌};
 ghost use Rattle.order.specs.Cells.{place_of};
 ghost use Rattle.distance.specs.Distance.{opposed, told_distance, distance_of};
@@ -9,7 +11,7 @@ ghost use Rattle.distance.specs.Steps.{front, without, SameFront};
 
 use order::{Cell, Order, Outcome, Refusal};
 
-#[derive(Drop)]
+#[derive(Clone, Copy)]
 pub enum DistanceAnswer {
     Refused(Refusal),
     Distance(u32),
