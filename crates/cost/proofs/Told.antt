@@ -2,7 +2,6 @@
 -- Assumes nothing.
 use mathlib.Core.Path.{◌≡◌, ap, sym}
 use lib.IntN.{ℤ}
-use Rattle.order.specs.declared.Outcome.TheVariants as outcome
 use Rattle.order.specs.Refusals.{Told}
 use Rattle.order.proofs.Refusals.{outcome_by_number, refusal_by_number, not-zero}
 use Rattle.cost.specs.declared.CostAnswer.{CostAnswer}

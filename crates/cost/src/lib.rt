@@ -1,6 +1,8 @@
 // Displacements and the cost of orders u to v (document 01, "Calls outside the list").
 // Every public function takes any two records and answers them by one equation with a definition of specs/. Proved besides:
 // the cost is the largest displacement and at least 0 (proofs/Costs), and an answer is told one to one (proofs/Told).
+#![tactic(auto)]
+
 ghost use Rattle.std.specs.Prelude.{◌≡◌, ◌≤◌};
 ghost use Rattle.std.proofs.Math.IntN.{sub_ℕ};
 ghost use Rattle.ranks.specs.Ranks.{rank_numbers, no_ranks};
@@ -10,21 +12,21 @@ ghost use Rattle.cost.specs.Steps.{told_pair, ranks_of_pair, Low, displacements_
 use order::{Order, Outcome, Rank, Refusal};
 use ranks::Ranks;
 
-#[derive(Drop)]
+#[derive(Clone, Copy)]
 pub enum CostAnswer {
     Refused(Refusal),
     Cost(u8),
 }
 
 // The displacement of cell c at index c - 1, then zeros.
-#[derive(Drop)]
+#[derive(Clone, Copy)]
 pub struct DisplacementsAnswer {
     pub outcome: Outcome,
     pub displacements: [i8; 12],
 }
 
 // The ranks of the cells in two orders, beside the outcome of their checks.
-#[derive(Drop)]
+#[derive(Clone, Copy)]
 struct RanksPair {
     outcome: Outcome,
     from: Ranks,
