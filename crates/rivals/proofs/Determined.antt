@@ -106,14 +106,14 @@ module _ (run : Machine) where
   to_plain g p a [] rest = rest
   to_plain g p a (c ∷ cs) (next {s = s} {ss = ss} m k) =
       let new = (apply_of p c).value.group in
-      let later : Course apply_of new (plain_after (apply_of p c).number p c) s cs ss = rw (plain_step p c) (to_plain _ new (numbered_next a c) cs (rw (plain_goes a c) at k)) in
+      let later : Course apply_of new (plain_after (apply_of p c).number p c) s cs ss = rw (plain_step p c) (to_plain (run g c).value.group new (numbered_next a c) cs (rw (plain_goes a c) at k)) in
       next (rw (same_here a c) at m) later
 
   from_plain : (g p : Group) → Numbered g p → (cs : List Call) {r : Rival} {ss : List Rival} → Course apply_of p p r cs ss → Course run g p r cs ss
   from_plain g p a [] rest = rest
   from_plain g p a (c ∷ cs) (next {r = r} {s = s} {ss = ss} m k) =
       let new = (run g c).value.group in
-      let later : Course run new (plain_after (run g c).number p c) s cs ss = rw (plain_goes a c) (from_plain new _ (numbered_next a c) cs (rw (plain_step p c) at k)) in
+      let later : Course run new (plain_after (run g c).number p c) s cs ss = rw (plain_goes a c) (from_plain new (apply_of p c).value.group (numbered_next a c) cs (rw (plain_step p c) at k)) in
       let move : Moves (run g c).number c.kind (target p c) r s = rw (same_here a c) m in
       next move later
 
