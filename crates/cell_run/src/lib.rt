@@ -1,6 +1,8 @@
 // Runs of 3 to 128 cells (document 02, request (a)): the record, the limits of a run and of its windows, and the calls that open a run and raise
 // its cells. A run goes in by value and comes back by value. Every public function takes any value, and one equation with a definition of specs/
 // fixes its answer. Proved besides: a run stays a run (proofs/Runs).
+#![tactic(auto)]
+
 ghost use Rattle.std.specs.Prelude.{◌≡◌, true};
 ghost use Rattle.order.specs.Refusals.{outcome_number, number_of};
 ghost use Rattle.group.specs.Record.{all_at_most, is_row};
@@ -11,14 +13,14 @@ use order::{Cell, Outcome, Refusal};
 const MAX_LEVEL: u16 = 4095;
 
 // The levels of cells 1 to len, each from 0 to 4,095; the places past len are 0.
-#[derive(Drop)]
+#[derive(Clone, Copy)]
 pub struct Run {
     pub len: usize,
     pub levels: [u16; 128],
 }
 
 // The answer of open_run and raise_cell.
-#[derive(Drop)]
+#[derive(Clone, Copy)]
 pub struct RunAnswer {
     pub outcome: Outcome,
     pub run: Run,
