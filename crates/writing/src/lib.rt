@@ -1,5 +1,7 @@
 // The plain machine's write (document 01, "The plain machine"): minimal push-up to an order, with its push program. It takes any record and any order
 // and answers them by one equation with a definition of `push_up`, which has its laws too.
+#![tactic(auto)]
+
 ghost use Rattle.std.specs.Prelude.{◌≡◌, true, ◌≤◌};
 ghost use Rattle.order.specs.Cells.{is_order};
 ghost use Rattle.order.specs.Order.{listed};
