@@ -2,6 +2,8 @@
 // within distance 1 of an order, by the syndrome. Codewords have no numbers here: these are the crate `code`'s. Every public function takes
 // any value and answers it by one equation with a definition of specs/. Proved besides: at most one codeword is within distance 1 of
 // an order, and it is the one that is found (proofs/Decoding).
+#![tactic(auto)]
+
 ghost use Rattle.std.specs.Prelude.{◌≡◌, ◌+◌, ◌%◌, ◌≤◌, ◌<◌};
 ghost use Rattle.order.specs.Refusals.{refusal_number};
 ghost use Rattle.order.specs.Order.{listed};
@@ -13,7 +15,7 @@ ghost use Rattle.decoder.specs.Steps.{Misread, corrects_by, Exchangeable};
 use coordinates::Coordinates;
 use order::{Order, Outcome, Refusal};
 
-#[derive(Drop)]
+#[derive(Clone, Copy)]
 pub enum TestAnswer {
     Refused(Refusal),
     Tested(bool),
@@ -21,7 +23,7 @@ pub enum TestAnswer {
 
 // The codeword within distance 1 of an order, and its coordinates. The cells of ranks `place` and `place` + 1 were exchanged; 0 where the order is
 // that codeword itself.
-#[derive(Drop)]
+#[derive(Clone, Copy)]
 pub struct NearestAnswer {
     pub outcome: Outcome,
     pub word: Order,
