@@ -1,4 +1,4 @@
-// The engine for programs in C and Rust (`rt staticlib exports`): the interpreter of call records, the room that its text needs, the number of
+// The engine for programs in C and Rust (`exports_c` exports these functions): the interpreter of call records, the room that its text needs, the number of
 // codewords, the numbers of the windows along a run, and test loads. Each function takes anything, and equations with the definitions of `runs`,
 // `code`, `window` and `load` determine what it answers and leaves. Proved besides: a buffer of the length that `rm_room` answers takes the whole text (runs, proofs/Room).
 ghost use Rattle.std.specs.Prelude.{◌≡◌, ◌++◌, min, length, drop};
@@ -14,8 +14,7 @@ use window::WindowsAnswer;
 
 // Puts what `rmcalls` prints for an input at the start of out, and answers how many bytes that is. Where out is shorter than
 // `rm_room` of the input's length, it stays as it was, and the answer is 0.
-#[unsafe(no_mangle)]
-pub extern "C" fn rm_run(input: &[u8], out: &mut [u8]) -> usize
+pub fn rm_run(input: &[u8], out: &mut [u8]) -> usize
     ensures value { result ≡ length (printed input.now out.old) }
     ensures out_after { out.new ≡ printed input.now out.old ++ drop result out.old }
 {
@@ -23,16 +22,14 @@ pub extern "C" fn rm_run(input: &[u8], out: &mut [u8]) -> usize
 }
 
 // The length that a buffer must have for the text of an input of a size, of which 65,536 bytes at most are read.
-#[unsafe(no_mangle)]
-pub extern "C" fn rm_room(size: usize) -> usize
+pub fn rm_room(size: usize) -> usize
     ensures { result ≡ room (min 65536 size) }
 {
     runs::room_for(size)
 }
 
 // K(n), the number of codewords of n cells; 0 where n is no size.
-#[unsafe(no_mangle)]
-pub extern "C" fn rm_words(n: usize) -> u32
+pub fn rm_words(n: usize) -> u32
     ensures { result ≡ (words_of n).value }
 {
     let answer = code::words(n);
@@ -44,8 +41,7 @@ pub extern "C" fn rm_words(n: usize) -> u32
 
 // Puts the numbers of the windows along a run with these levels at the start of a list, and the levels at the start of a scratch. The answer is
 // the number of a refusal, where both lists stay as they were, or 0.
-#[unsafe(no_mangle)]
-pub extern "C" fn rm_windows(
+pub fn rm_windows(
     levels: &[u16],
     width: usize,
     step: usize,
@@ -65,8 +61,7 @@ pub extern "C" fn rm_windows(
 
 // Fills a list with the symbols of a test load of n cells, and hands back the last state. The answer is the number of a refusal, where the list
 // stays as it was and the state is 0, or 0.
-#[unsafe(no_mangle)]
-pub extern "C" fn rm_load(n: usize, seed: u32, list: &mut [u32], last: &mut u32) -> u8
+pub fn rm_load(n: usize, seed: u32, list: &mut [u32], last: &mut u32) -> u8
     ensures value { result ≡ (load_of n seed (length list.old)).number }
     ensures list_after { list.new ≡ symbols_after n seed list.old }
     ensures last_after { last.new ≡ (load_of n seed (length list.old)).value }
