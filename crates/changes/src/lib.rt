@@ -1,6 +1,8 @@
 // The calls that make a group, or change one without raising a cell: open, leak, wear, erase (document 01, "The plain machine"; document 02, request (h), for the
 // endurance). A group goes in by value and comes back by value. Every public function takes any record and answers it by one equation with a definition of
 // specs/. Proved besides: what an open makes is a group, and a group stays a group (proofs/Groups).
+#![tactic(auto)]
+
 ghost use Rattle.std.specs.Prelude.{◌≡◌, ◌++◌, ◌-◌, ◌≤◌, replicate};
 ghost use Rattle.order.specs.Refusals.{outcome_number, number_of};
 ghost use Rattle.group.specs.Record.{told_changed};
