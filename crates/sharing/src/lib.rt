@@ -2,6 +2,8 @@
 // target and answers them by one equation with a definition of specs/, over that of `push_up`. Proved besides: with all sizes 1 it answers as
 // `writing::write` does, mark aside (proofs/Ones); each rank has as many cells as its size says, and the target shows exactly when every cell of a rank is
 // strictly above every cell of the next (proofs/Shown).
+#![tactic(auto)]
+
 ghost use Rattle.std.specs.Prelude.{◌≡◌, true, ◌≤◌, ◌<◌, max};
 ghost use Rattle.order.specs.Cells.{is_order};
 ghost use Rattle.order.specs.Order.{listed};
@@ -17,7 +19,7 @@ use push_up::{Push, PushUp, Written};
 
 // A target with several cells on one rank: how many ranks, how many cells each of them has, the highest rank first, and the cells by rank. Places past the
 // last rank hold 0.
-#[derive(Drop)]
+#[derive(Clone, Copy)]
 pub struct Ranked {
     pub count: usize,
     pub sizes: [u8; 12],
