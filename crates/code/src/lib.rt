@@ -2,6 +2,8 @@
 // codeword itself is found by the crate `decoder`. Every public function takes any value and answers it by one equation with a definition
 // of specs/. Proved besides: number and word undo each other (proofs/Laws); `decode` finds a codeword exactly when it is within
 // distance 1, and says lost exactly when there is none (proofs/Found).
+#![tactic(auto)]
+
 mod table;
 
 ghost use Rattle.std.specs.Prelude.{◌≡◌, true, ◌+◌, ◌≤◌, ◌<◌, T, take};
@@ -18,34 +20,34 @@ use coordinates::Coordinates;
 use order::{Order, OrderAnswer, Outcome, Rank, Refusal};
 use table::Table;
 
-#[derive(Drop)]
+#[derive(Clone, Copy)]
 pub enum WordsAnswer {
     Refused(Refusal),
     Words(u32),
 }
 
 // What a reading found: a codeword, or one with the cells of ranks k and k + 1 exchanged.
-#[derive(Drop)]
+#[derive(Clone, Copy)]
 pub enum Verdict {
     Clean,
     PutRight(Rank),
 }
 
-#[derive(Drop)]
+#[derive(Clone, Copy)]
 pub enum DecodeAnswer {
     Refused(Refusal),
     Decoded { symbol: u32, verdict: Verdict },
 }
 
 // What an order reads as, and the codeword found.
-#[derive(Drop)]
+#[derive(Clone, Copy)]
 pub struct CorrectedAnswer {
     pub answer: DecodeAnswer,
     pub word: Order,
 }
 
 // A coordinate, the number that is left for the later ones, and what these must leave.
-#[derive(Drop)]
+#[derive(Clone, Copy)]
 struct Choice {
     value: usize,
     number: u32,
@@ -53,7 +55,7 @@ struct Choice {
 }
 
 // The number of choices with a lower coordinate, and what the later coordinates must leave.
-#[derive(Drop)]
+#[derive(Clone, Copy)]
 struct Passed {
     count: u32,
     residue: usize,

@@ -1,6 +1,6 @@
 // Document 01's table of 1,215 counts, a block for each size n. In a block start i is a row of 2n - 1 counts, by residue.
 // Its recurrence is tested over the whole table in proofs/tail_counts.
-#[derive(Drop)]
+#[derive(Clone, Copy)]
 pub struct Table {
     pub of_3: [u32; 15],
     pub of_4: [u32; 28],
