@@ -1,6 +1,8 @@
 // Writes into a lent list of pushes, but for the list (document 01, "Refusal table": 10; document 02, request (g)): what such a call answers is decided here by
 // value, from the room of the list, that is, how many places it has; `push_list` puts the pushes there. Proved besides: with room enough the answer is that of
 // the write by value (proofs/Roomy).
+#![tactic(auto)]
+
 ghost use Rattle.std.specs.Prelude.{◌≡◌, []};
 ghost use Rattle.order.specs.Refusals.{outcome_number, number_of};
 ghost use Rattle.push_up.specs.WriteAnswer.{told_written};
