@@ -2,6 +2,8 @@
 // and answers it by one equation with a definition of specs/; a second one fixes the list that `load` is lent. Proved besides: the step is one-to-one,
 // and no state becomes 0 (proofs/States); every symbol that is filled in is that of a codeword, and a load that is cut anywhere in two is the load made
 // whole (specs/Claims, proofs/Loads).
+#![tactic(auto)]
+
 ghost use Rattle.std.specs.Prelude.{◌≡◌, ◌<◌, length};
 ghost use Rattle.load.specs.Load.{next_state, state_after, symbols, told_load, load_of, symbols_after};
 
@@ -9,7 +11,7 @@ use code::WordsAnswer;
 use order::Refusal;
 
 // The last state, or why nothing was filled in.
-#[derive(Drop)]
+#[derive(Clone, Copy)]
 pub enum LoadAnswer {
     Refused(Refusal),
     Loaded(u32),
