@@ -6,7 +6,7 @@
 --   take_over_checks n ls cs us e   the checks of a take-over from levels ls, caps cs, used pulses us and the endurance e: 1, 17, 20. A cap may be below the
 --                           level of its cell
 --   taken_over n ls cs us e  the record of n cells with these levels, caps, used pulses and endurance, written
---   take_over_of n ls cs us e    the answer to `take_over`; a refused one returns the all_zero_lem record
+--   take_over_of n ls cs us e    the answer to `take_over`; a refused one returns the all-zero record
 use Rattle.std.specs.Prelude.{ℕ, ◌-◌, Bool, true, ◌&&◌, List, [], ◌∷◌, ◌++◌, eqb, length, replicate}
 use Rattle.order.specs.declared.Refusal.{Refusal}
 use Rattle.order.specs.declared.Refusal.TheVariants.{Size, Measurement, Endurance}

@@ -2,6 +2,8 @@
 // (request (h)), as after a loss of supply in the middle of a push program.
 // The call takes any lists and answers them by one equation with a definition of specs/. Proved besides: what it makes is a group, and any group
 // can be taken over as it stands, but for the mark, which is set (proofs/Taken).
+#![tactic(auto)]
+
 ghost use Rattle.std.specs.Prelude.{◌≡◌, true, ◌-◌, ◌≤◌};
 ghost use Rattle.group.specs.Record.{told_changed};
 ghost use Rattle.take_over.specs.TakeOver.{is_given, in_places, take_over_of};
@@ -12,14 +14,14 @@ use order::{Outcome, Refusal};
 const MAX_LEVEL: u16 = 4095;
 
 // Values in the first places of twelve, and whether they can be those of n cells: as many, and none above 4,095.
-#[derive(Drop)]
+#[derive(Clone, Copy)]
 struct MeasuredRow {
     given: bool,
     places: [u16; 12],
 }
 
 // The same of used pulses: as many, and none above the endurance.
-#[derive(Drop)]
+#[derive(Clone, Copy)]
 struct TallyRow {
     given: bool,
     places: [u32; 12],
