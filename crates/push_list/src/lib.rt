@@ -1,8 +1,10 @@
 // The lent list of pushes (document 01: "The call that fills a lent list of pushes writes the pushes first and leaves the later places
 // untouched"; document 02, request (g): a shared write into such a list). What is written there is decided by value, in `push_room`; only `fill` and
-// the two public functions have a slice of pushes, and these are proved by hand. Each public function takes any record; equations fix its answer and its list.
+// the two public functions have a slice of pushes. Each public function takes any record; equations fix its answer and its list.
 // Proved besides: with room enough the answer is that of the write by value, and the list starts with its pushes, a push program from the old levels to the
 // new ones (proofs/Written).
+#![tactic(auto)]
+
 ghost use Rattle.std.specs.Prelude.{◌≡◌, ◌≤◌, length};
 ghost use Rattle.push_up.specs.WriteAnswer.{told_written};
 ghost use Rattle.push_room.specs.Room.{write_into_of, write_shared_into_of};
@@ -15,7 +17,7 @@ use push_up::{Push, Written};
 use sharing::Ranked;
 
 // The answer of a write into a lent list: the pushes are the first count places of the list, from low to high.
-#[derive(Drop)]
+#[derive(Clone, Copy)]
 pub struct WrittenInto {
     pub outcome: Outcome,
     pub group: Group,
@@ -24,7 +26,7 @@ pub struct WrittenInto {
 }
 
 // What a write into a list decides before the list is touched: its answer, and the pushes, whose count is the answer's.
-#[derive(Drop)]
+#[derive(Clone, Copy)]
 struct Plan {
     answer: WrittenInto,
     pushes: [Push; 11],
