@@ -15,6 +15,7 @@ fill-requires c =
 pub returns : goal.returns
 returns c =
     let decided = c.decide-plan.ensures in
-    let list = c.args.list.now in
-    (ap carried_of decided,
-     c.fill.ensures ∙ ap (λ (p : Told Program). filled_by p list) decided ∙ sym (list_filled list (into_answer c.args.g (length list) c.args.target)))
+    let list = c.args.list.now in (
+      ap carried_of decided,
+      c.fill.ensures ∙ ap (λ (p : Told Program). filled_by p list) decided ∙ sym (list_filled list (into_answer c.args.g (length list) c.args.target)),
+    )
