@@ -1,14 +1,17 @@
 // Runs the engine and the second implementation, `naive`, on the same groups, lists of calls and runs. Prints for each part how many
 // comparisons it made, how many differed, and how many of the naive answers had each number of the refusal table, so that no part is empty. At
 // each part stands how many these must be; where runs are sampled, the numbers of their answers are counted and not foretold.
+#![tactic(auto)]
+
 mod lent;
 mod machine;
 mod windows;
 
 use comparing::report;
 use comparing::report::{Report, part};
+use std::io;
 
-#[derive(Drop)]
+#[derive(Clone, Copy)]
 enum Part {
     // 1,000 sampled records and as many forged ones, 10 comparisons each: every number from 0 to 10, 18 and 19.
     Records,
@@ -21,59 +24,85 @@ enum Part {
 }
 
 // One part at one size.
-fn run(r: Report, p: Part, n: usize) -> Report {
+fn run(rt: &impl Print, r: Report, p: Part, n: usize) -> io::Result<Report> {
     match p {
-        Part::Records => part(r, b"records, n = ", n, machine::records(n, 1000)),
-        Part::Alike => part(r, b"alike, n = ", n, machine::alike(n)),
-        Part::CallLists => part(r, b"lists of calls, n = ", n, machine::lists(n, 40)),
-        Part::LentLists => part(r, b"lent lists, n = ", n, lent::lists(n)),
+        Part::Records => part(rt, r, b"records, n = ", n, machine::records(n, 1000)),
+        Part::Alike => part(rt, r, b"alike, n = ", n, machine::alike(n)),
+        Part::CallLists => part(rt, r, b"lists of calls, n = ", n, machine::lists(n, 40)),
+        Part::LentLists => part(rt, r, b"lent lists, n = ", n, lent::lists(n)),
     }
 }
 
 // One part at each size up to a last one.
-fn each(r: Report, p: Part, from: usize, last: usize) -> Report {
+fn each(rt: &impl Print, r: Report, p: Part, from: usize, last: usize) -> io::Result<Report> {
     let mut next = r;
     for n in from..=last {
-        next = run(next, p, n);
+        next = run(rt, next, p, n)?;
     }
-    next
+    Ok(next)
 }
 
-fn main() {
-    let mut r = report::empty();
+// The parts on groups and lists of calls.
+fn groups(rt: &impl Print, before: Report) -> io::Result<Report> {
+    let mut r = before;
     // 27 levels, 64 caps, 2 marks, and 0 to 3 pulses used of cell 1, which can take 3; 22 calls each. Refused are: cells 0 and 4, leaked and worn, 3;
     // symbol 2, 5; a scrub or read of a group that is not marked, 6; a cap of 0 worn to 1, 9; a store, scrub or write 8, or else 19.
-    r = part(r, b"every small group, n = ", 3, machine::every_small());
+    r = part(rt, r, b"every small group, n = ", 3, machine::every_small())?;
     // The same groups with 0 to 3 pulses used of each cell, and 6 orders. With 27 levels, of the 64 caps those are worn that are below a new level, and of
     // the 64 lists of used pulses those are spent that leave less than a rise: 0, 8, 19.
     r = part(
+        rt,
         r,
         b"every small write, n = ",
         3,
         machine::every_small_write(),
-    );
-    r = each(r, Part::Records, 3, 12);
-    r = each(r, Part::Alike, 3, 12);
-    r = each(r, Part::CallLists, 3, 12);
-    r = each(r, Part::LentLists, 3, 12);
+    )?;
+    r = each(rt, r, Part::Records, 3, 12)?;
+    r = each(rt, r, Part::Alike, 3, 12)?;
+    r = each(rt, r, Part::CallLists, 3, 12)?;
+    r = each(rt, r, Part::LentLists, 3, 12)?;
+    Ok(r)
+}
+
+// The parts on runs and their windows.
+fn runs(rt: &impl Print, before: Report) -> io::Result<Report> {
+    let mut r = before;
     // 141 lengths and 5 huge ones: 126 are opened, all else refused 13.
-    r = part(r, b"opened runs, ", 146, windows::opens());
+    r = part(rt, r, b"opened runs, ", 146, windows::opens())?;
     // 32 runs and as many forged ones, each as a record and as a list. Of the forged ones 20 have a wrong length; of 12 with another level 2 are
     // runs as records, and 8 as lists: 74 are runs, 54 refused 13.
-    r = part(r, b"checked runs, ", 64, windows::checks());
+    r = part(rt, r, b"checked runs, ", 64, windows::checks())?;
     // 32 runs and as many forged ones, 256 cells, 7 levels: 0, 3, 13, 14.
-    r = part(r, b"raises, runs ", 64, windows::raises());
+    r = part(rt, r, b"raises, runs ", 64, windows::raises())?;
     // 32 runs, 15 widths, 14 steps, 3 lengths of each of the two lists, 2 comparisons each. Where width and step fit, 4 of 9 are done and 5
     // refused 15, all else 13; few of the forged runs have any that fit.
-    r = part(r, b"windows, levels ", 4, windows::along(0, 4));
-    r = part(r, b"windows, levels ", 4096, windows::along(0, 4096));
-    r = part(r, b"windows, forged runs ", 32, windows::along(32, 4096));
+    r = part(rt, r, b"windows, levels ", 4, windows::along(0, 4))?;
+    r = part(rt, r, b"windows, levels ", 4096, windows::along(0, 4096))?;
+    r = part(
+        rt,
+        r,
+        b"windows, forged runs ",
+        32,
+        windows::along(32, 4096),
+    )?;
     // 0 to 130 cells, 15 widths, 14 steps: 0, 13.
-    r = part(r, b"limits of windows to ", 130, windows::every_limit());
+    r = part(rt, r, b"limits of windows to ", 130, windows::every_limit())?;
     // 13 calls, 2 comparisons each: one that fits is done, 5 huge widths and 5 huge steps are refused 13, and two with a list without a place 15.
     // Then 15 of limits alone: one of the huge lengths goes by 3, all else is refused 13.
-    r = part(r, b"windows, huge limits ", 13, windows::limits());
+    r = part(rt, r, b"windows, huge limits ", 13, windows::limits())?;
     // Lists of 0 to 130 levels, 15 widths, 14 steps: 0, 13.
-    r = part(r, b"windows, lists of levels to ", 130, windows::slices());
-    report::total(r);
+    r = part(
+        rt,
+        r,
+        b"windows, lists of levels to ",
+        130,
+        windows::slices(),
+    )?;
+    Ok(r)
+}
+
+fn main(rt: HostRuntime) -> io::Result<()> {
+    let r = groups(&rt, report::empty())?;
+    let all = runs(&rt, r)?;
+    report::total(&rt, all)
 }

@@ -10,7 +10,7 @@ use push_up::Push;
 
 // A call that is cut: what is called after a cut, the group and the pulses of the second implementation's answer to the uncut call, and the engine's
 // push program under way, with the levels and used pulses that it began from and the pulses before it.
-#[derive(Drop)]
+#[derive(Clone, Copy)]
 struct Cutting {
     tally: Tally,
     again: Call,

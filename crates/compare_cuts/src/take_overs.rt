@@ -36,7 +36,7 @@ const EDGES: [u16; 4] = [0, 4095, 4096, 65535];
 const ENDURANCES: [u32; 4] = [0, 1, 1000000, 1000001];
 
 // The group that the engine takes over and the one that the second implementation does, compared.
-#[derive(Drop)]
+#[derive(Clone, Copy)]
 pub struct Both {
     pub tally: Tally,
     pub group: Group,

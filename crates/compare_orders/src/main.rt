@@ -1,14 +1,17 @@
 // Runs the engine and the second implementation, `naive`, on the same orders, words and loads. Prints for each part how many comparisons it made, how
 // many differed, and how many of the naive answers had each number of the refusal table, so that no part is empty. At each part stands how
 // many these must be, where K is the number of words; where the inputs are sampled, the numbers of their answers are counted and not foretold.
+#![tactic(auto)]
+
 mod loads;
 mod orders;
 mod words;
 
 use comparing::report;
 use comparing::report::{Report, part};
+use std::io;
 
-#[derive(Drop)]
+#[derive(Clone, Copy)]
 enum Part {
     // n! orders, 29 comparisons each. As coordinates, the cells are in range for [1, .., n] alone: n! - 1 are refused 11. A word is near n
     // orders, itself among them: three calls refuse n! - nK orders as lost. All else is done.
@@ -29,44 +32,57 @@ enum Part {
 }
 
 // One part at one size.
-fn run(r: Report, p: Part, n: usize) -> Report {
+fn run(rt: &impl Print, r: Report, p: Part, n: usize) -> io::Result<Report> {
     match p {
-        Part::Orders => part(r, b"every order, n = ", n, orders::every(n)),
-        Part::Pairs => part(r, b"every pair of orders, n = ", n, orders::every_pair(n)),
+        Part::Orders => part(rt, r, b"every order, n = ", n, orders::every(n)),
+        Part::Pairs => part(
+            rt,
+            r,
+            b"every pair of orders, n = ",
+            n,
+            orders::every_pair(n),
+        ),
         Part::Lists => part(
+            rt,
             r,
             b"lists, length ",
             n,
             orders::every_list(orders::length(n)),
         ),
-        Part::SampledOrders => part(r, b"sampled orders, n = ", n, orders::every_sample(n)),
-        Part::Words => part(r, b"words, n = ", n, words::through(n, words::stride(n))),
-        Part::Loads => part(r, b"loads, n = ", n, loads::every_seed(n)),
+        Part::SampledOrders => part(rt, r, b"sampled orders, n = ", n, orders::every_sample(n)),
+        Part::Words => part(
+            rt,
+            r,
+            b"words, n = ",
+            n,
+            words::through(n, words::stride(n)),
+        ),
+        Part::Loads => part(rt, r, b"loads, n = ", n, loads::every_seed(n)),
     }
 }
 
 // One part at each size up to a last one.
-fn each(r: Report, p: Part, from: usize, last: usize) -> Report {
+fn each(rt: &impl Print, r: Report, p: Part, from: usize, last: usize) -> io::Result<Report> {
     let mut next = r;
     for n in from..=last {
-        next = run(next, p, n);
+        next = run(rt, next, p, n)?;
     }
-    next
+    Ok(next)
 }
 
-fn main() {
+fn main(rt: HostRuntime) -> io::Result<()> {
     let mut r = report::empty();
-    r = each(r, Part::Orders, 3, 6);
-    r = each(r, Part::Pairs, 3, 6);
-    r = each(r, Part::Lists, 0, 16);
-    r = each(r, Part::SampledOrders, 7, 12);
-    r = each(r, Part::Words, 3, 12);
+    r = each(&rt, r, Part::Orders, 3, 6)?;
+    r = each(&rt, r, Part::Pairs, 3, 6)?;
+    r = each(&rt, r, Part::Lists, 0, 16)?;
+    r = each(&rt, r, Part::SampledOrders, 7, 12)?;
+    r = each(&rt, r, Part::Words, 3, 12)?;
     // 20 sizes, 12 comparisons each: of the 10 that a group has, 20 new groups, and 20 refused 20; 40 times no order, which is no refusal; all else refused 1.
-    r = part(r, b"sizes, ", 20, words::every_size());
+    r = part(&rt, r, b"sizes, ", 20, words::every_size())?;
     // One comparison each.
-    r = part(r, b"steps of a load, ", 4096, loads::steps());
-    r = each(r, Part::Loads, 3, 12);
+    r = part(&rt, r, b"steps of a load, ", 4096, loads::steps())?;
+    r = each(&rt, r, Part::Loads, 3, 12)?;
     // 20 sizes, 2 seeds, 861 comparisons each: all refused 1.
-    r = part(r, b"loads of no size, ", 20, loads::sizes());
-    report::total(r);
+    r = part(&rt, r, b"loads of no size, ", 20, loads::sizes())?;
+    report::total(&rt, r)
 }

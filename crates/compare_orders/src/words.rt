@@ -12,7 +12,7 @@ use naive_calls::symbols::words_before;
 use order::Order;
 
 // The ranks of a sampled order.
-#[derive(Drop)]
+#[derive(Clone, Copy)]
 struct Held {
     ranks: [u8; 12],
 }

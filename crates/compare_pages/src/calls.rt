@@ -7,7 +7,7 @@ use page::Page;
 use page_store::PageStored;
 
 // Eight records of a page, and nine symbols, of which a page store is given some.
-#[derive(Drop)]
+#[derive(Clone, Copy)]
 pub struct Case {
     pub groups: [Group; 8],
     pub places: [u32; 9],

@@ -11,13 +11,13 @@ use push_up::{Push, Written};
 use sharing::Ranked;
 
 // The answer, and the list that was lent.
-#[derive(Drop)]
+#[derive(Clone, Copy)]
 pub struct Lent {
     pub answer: WrittenInto,
     pub list: [Push; 12],
 }
 
-// A write, where the first places of a list are lent, as many as there is room. This and the next alone have a slice of pushes, and are proved by hand.
+// A write, where the first places of a list are lent, as many as there is room. This and the next alone have a slice of pushes.
 fn lend(g: Group, target: Order, list: [Push; 12], room: usize) -> Lent
     requires { room ≤ 12 }
 {

@@ -1,16 +1,16 @@
 // The lines that are printed, one for each part.
 use crate::tally::{Tally, none, sum};
-use libc::STDOUT_FILENO;
+use std::io;
 
 // All parts so far.
-#[derive(Drop)]
+#[derive(Clone, Copy)]
 pub struct Report {
     pub all: Tally,
     pub parts: u64,
 }
 
 // Room for all 27 numbers, with counts of ten digits.
-#[derive(Drop)]
+#[derive(Clone, Copy)]
 struct Line {
     len: usize,
     text: [u8; 512],
@@ -38,9 +38,23 @@ fn with_bytes(l: Line, bytes: &[u8]) -> Line {
 
 // Some bytes and a number.
 fn with_number(l: Line, bytes: &[u8], x: u64) -> Line {
-    let mut digits = [0u8; 20];
-    let k = io::decimal(x, &mut digits);
-    with_bytes(with_bytes(l, bytes), &digits[..k])
+    with_digits(with_bytes(l, bytes), x)
+}
+
+// The line with the decimal digits of a number more.
+fn with_digits(l: Line, x: u64) -> Line {
+    let mut digits = [b'0'; 20];
+    let mut first = 19;
+    let mut rest = x;
+    for i in 0..20 {
+        let at = 19 - i;
+        if rest != 0 {
+            digits[at] = b'0' + (rest % 10) as u8;
+            first = at;
+        }
+        rest = rest / 10;
+    }
+    with_bytes(l, &digits[first..])
 }
 
 // How many answers had each number, where there are any.
@@ -55,7 +69,7 @@ fn with_given(l: Line, given: [u64; 27]) -> Line {
 }
 
 // Prints a part and its size, how many comparisons it made, how many differed, and the numbers that were given.
-fn print(name: &[u8], n: u64, t: Tally) {
+fn print(rt: &impl Print, name: &[u8], n: u64, t: Tally) -> io::Result<()> {
     let empty = Line {
         len: 0,
         text: [0; 512],
@@ -65,30 +79,31 @@ fn print(name: &[u8], n: u64, t: Tally) {
     let given = t.given;
     let c = with_bytes(with_given(b, given), b"\n");
     let text = c.text;
-    print_array(&text, c.len);
+    print_array(rt, &text, c.len)
 }
 
-fn print_array(text: &[u8; 512], len: usize) {
-    print_front(text, len);
+fn print_array(rt: &impl Print, text: &[u8; 512], len: usize) -> io::Result<()> {
+    print_front(rt, text, len)
 }
 
-fn print_front(text: &[u8], len: usize) {
+fn print_front(rt: &impl Print, text: &[u8], len: usize) -> io::Result<()> {
     if len <= text.len() {
-        io::write_all(STDOUT_FILENO, &text[0..len]);
+        rt.write_all(&text[0..len])?;
     }
+    Ok(())
 }
 
 // The line of a part, which counts in the totals.
-pub fn part(r: Report, name: &[u8], n: usize, t: Tally) -> Report {
-    print(name, n as u64, t);
+pub fn part(rt: &impl Print, r: Report, name: &[u8], n: usize, t: Tally) -> io::Result<Report> {
+    print(rt, name, n as u64, t)?;
     let all = r.all;
-    Report {
+    Ok(Report {
         all: sum(all, t),
         parts: std::num::wrapping_add_u64(r.parts, 1),
-    }
+    })
 }
 
-pub fn total(r: Report) {
+pub fn total(rt: &impl Print, r: Report) -> io::Result<()> {
     let all = r.all;
-    print(b"all parts, ", r.parts, all);
+    print(rt, b"all parts, ", r.parts, all)
 }

@@ -2,7 +2,7 @@
 // highest of document 02.
 use naive::numbers::wide;
 
-#[derive(Drop)]
+#[derive(Clone, Copy)]
 pub struct Tally {
     pub made: u64,
     pub differed: u64,

@@ -1,19 +1,22 @@
-// The program `rmcalls` between two descriptors: reads pieces, runs them, writes their text. No contract can say what is read and written. Proved is
+// The program `rmcalls` between a reader and a writer: reads pieces, runs them, writes their text. No contract says what is read and written. Proved is
 // that no piece is refused: a run takes each piece that is handed to it (`take_piece`, `take_last`), since it stands where the bytes of the pieces
 // before leave it (proofs/Sent), and by `pieces-print` (runs, proofs/Pieces) such pieces print the text of the whole. Tested, not proved, is that
 // the pieces read are those run, and that their text is what is written.
+#![tactic(auto)]
+
 ghost use Rattle.std.specs.Prelude.{◌≡◌, true, ◌++◌, ◌≤◌, length, drop};
 ghost use Rattle.records.specs.Records.{records};
 ghost use Rattle.runs.specs.Text.{room};
 ghost use Rattle.runs.specs.Pieces.{progress_after, lines_from, text_from, goes_on, ends};
 
 use runs::{PieceAnswer, Progress};
+use std::io::{Read, Write};
 
 // The most pieces that are read, of 4,096 bytes each: 65,536 bytes.
 const PIECES: u32 = 16;
 
 // What came of a run: its whole text was written; some of it could not be; or it is the text of an input whose end could not be read.
-#[derive(Drop)]
+#[derive(Clone, Copy)]
 pub enum Poured {
     Whole,
     NotWritten,
@@ -22,24 +25,24 @@ pub enum Poured {
 
 // Reads call records until 65,536 bytes, the end of the input or a read that fails, and writes their text, piece by piece, so that the two
 // buffers take some 70 KB of stack.
-pub fn pour(from: i32, to: i32) -> Poured {
-    let mut input = io::buffer();
+pub fn pour<R: Read, W: Write>(from: &mut R, to: &mut W) -> Poured {
+    let mut input = piece_buffer();
     let mut text = text_buffer();
     let mut p = runs::begin();
-    let mut size = io::read_full(from, &mut input);
+    let mut size = read_full(from, &mut input);
     let mut pieces = 1;
     while size == 4096 && pieces < PIECES {
         let done = take_piece(p, &input[..size], &mut text);
-        if !io::write_all(to, &text[..done.end]) {
+        if to.write_all(&text[..done.end]).is_err() {
             return Poured::NotWritten;
         }
         let next = done.progress;
         p = next;
-        size = io::read_full(from, &mut input);
+        size = read_full(from, &mut input);
         pieces += 1;
     }
     let end = take_last(p, &input[..size], &mut text);
-    if !io::write_all(to, &text[..end]) {
+    if to.write_all(&text[..end]).is_err() {
         return Poured::NotWritten;
     }
     if size == 4096 || ended(from) {
@@ -71,9 +74,38 @@ fn take_last(p: Progress, input: &[u8], text: &mut [u8]) -> usize
 }
 
 // Whether an input from which fewer bytes came than were asked for is at its end: a read that failed fails again.
-fn ended(from: i32) -> bool {
+fn ended<R: Read>(from: &mut R) -> bool {
     let mut next = [0u8; 1];
-    libc::read(from, &mut next) == 0
+    matches!(from.read(&mut next), Ok(0))
+}
+
+// Reads until buf is full, the input ends or a read fails, and answers how many bytes stand at the start of buf.
+fn read_full<R: Read>(from: &mut R, buf: &mut [u8]) -> usize
+    ensures { result ≤ length buf.new }
+{
+    let mut done = 0;
+    while done < buf.len() {
+        let size = read_some(from, &mut buf[done..]);
+        if size == 0 {
+            return done;
+        }
+        done += size;
+    }
+    done
+}
+
+// One read: 0 at the end of the input, and where it fails.
+fn read_some<R: Read>(from: &mut R, buf: &mut [u8]) -> usize
+    ensures { result ≤ length buf.new }
+{
+    from.read(buf).unwrap_or(0)
+}
+
+// Room for a piece.
+fn piece_buffer() -> [u8; 4096]
+    ensures { 4096 ≡ length result }
+{
+    [0; 4096]
 }
 
 // Room for what is printed for a piece.

@@ -4,120 +4,131 @@
 // and --load, the windows and the loads; what lent lists hold besides is what request (a) of document 02 says, the run's levels and what stood there; K(n) is the number of
 // ways to choose coordinates 1 to n - 1, coordinate i from 0 to i, such that the sum of i times coordinate i is divisible by 2n - 1, counted one
 // residue at a time.
+#![tactic(auto)]
+
 ghost use Rattle.std.specs.Prelude.{◌≡◌, length};
 
-use libc::STDOUT_FILENO;
+use std::fs::File;
+use std::io;
+use std::io::Read;
+use std::rt::Files;
 
-fn main() {
-    words();
-    windows();
-    loads();
-    show(b"refusals");
-    show(b"left");
-    show(b"empty");
-    show(b"cut");
-    line(b"long");
+// The most bytes of a file that are read.
+const MOST: u64 = 65536;
+
+fn main(rt: HostRuntime) -> io::Result<()> {
+    words(&rt)?;
+    windows(&rt)?;
+    loads(&rt)?;
+    show(&rt, "refusals")?;
+    show(&rt, "left")?;
+    show(&rt, "empty")?;
+    show(&rt, "cut")?;
+    line(&rt, b"long")?;
     let input = long_input();
     let mut text = text_buffer();
-    tell_end(&input, &mut text);
+    tell_end(&rt, &input, &mut text)
 }
 
 // K(n) for n = 0 to 13: 0 where n is no size.
-fn words() {
+fn words(rt: &impl Print) -> io::Result<()> {
     let mut n = 0;
     while n < 14 {
-        number(b"words ", exports::rm_words(n) as u64);
+        number(rt, b"words ", exports::rm_words(n) as u64)?;
         n += 1;
     }
+    Ok(())
 }
 
 // Two windows of 12 cells along 14 that are 7 cells apart; the second closes the ring. First with one place for their numbers, then with three.
-fn windows() {
+fn windows(rt: &impl Print) -> io::Result<()> {
     let levels: [u16; 14] = [5, 1, 1, 9, 0, 3, 5, 0, 2, 2, 4, 9, 1, 0];
     let mut numbers: [u32; 3] = [7, 7, 7];
     let mut scratch: [u16; 16] = [6; 16];
-    tell_windows(&levels, &mut numbers, 1, &mut scratch);
-    tell_windows(&levels, &mut numbers, 3, &mut scratch);
+    tell_windows(rt, &levels, &mut numbers, 1, &mut scratch)?;
+    tell_windows(rt, &levels, &mut numbers, 3, &mut scratch)
 }
 
 // The answer where so many places are lent for the numbers, and both lists as they are then.
-fn tell_windows(levels: &[u16], numbers: &mut [u32], places: usize, scratch: &mut [u16]) {
+fn tell_windows(
+    rt: &impl Print,
+    levels: &[u16],
+    numbers: &mut [u32],
+    places: usize,
+    scratch: &mut [u16],
+) -> io::Result<()> {
     if numbers.len() < places {
-        return;
+        return Ok(());
     }
     let answer = exports::rm_windows(levels, 12, 7, &mut numbers[..places], scratch);
-    number(b"rm_windows ", wide(answer));
-    list_numbers(numbers);
-    list_scratch(scratch);
+    number(rt, b"rm_windows ", wide(answer))?;
+    list_numbers(rt, numbers)?;
+    list_scratch(rt, scratch)
 }
 
 // A size and a seed that are none, a seed that is none, a list without a place, and six symbols of 12 cells from seed 1.
-fn loads() {
+fn loads(rt: &impl Print) -> io::Result<()> {
     let mut list: [u32; 6] = [7, 7, 7, 7, 7, 7];
-    tell_loads(&mut list);
+    tell_loads(rt, &mut list)
 }
 
-fn tell_loads(list: &mut [u32]) {
-    tell_load(13, 0, list);
-    tell_load(12, 0, list);
-    tell_load(12, 9, &mut list[..0]);
-    tell_load(12, 1, list);
+fn tell_loads(rt: &impl Print, list: &mut [u32]) -> io::Result<()> {
+    tell_load(rt, 13, 0, list)?;
+    tell_load(rt, 12, 0, list)?;
+    tell_load(rt, 12, 9, &mut list[..0])?;
+    tell_load(rt, 12, 1, list)
 }
 
 // The answer, the last state and the list.
-fn tell_load(n: usize, seed: u32, list: &mut [u32]) {
+fn tell_load(rt: &impl Print, n: usize, seed: u32, list: &mut [u32]) -> io::Result<()> {
     let mut last: u32 = 7;
     let answer = exports::rm_load(n, seed, list, &mut last);
-    number(b"rm_load ", wide(answer));
-    number(b"state ", wide_number(last));
-    list_numbers(list);
+    number(rt, b"rm_load ", wide(answer))?;
+    number(rt, b"state ", wide_number(last))?;
+    list_numbers(rt, list)
 }
 
-fn list_numbers(numbers: &[u32]) {
+fn list_numbers(rt: &impl Print, numbers: &[u32]) -> io::Result<()> {
     let mut i = 0;
     while i < numbers.len() {
-        number(b"number ", wide_number(numbers[i]));
+        number(rt, b"number ", wide_number(numbers[i]))?;
         i += 1;
     }
+    Ok(())
 }
 
-fn list_scratch(scratch: &[u16]) {
+fn list_scratch(rt: &impl Print, scratch: &[u16]) -> io::Result<()> {
     let mut i = 0;
     while i < scratch.len() {
-        number(b"scratch ", wide_level(scratch[i]));
+        number(rt, b"scratch ", wide_level(scratch[i]))?;
         i += 1;
     }
+    Ok(())
 }
 
 // A file's room, answers and text.
-fn show(path: &[u8]) {
-    line(path);
-    let file = os::open_read(path);
-    if file < 0 {
-        os::fail(path);
-        return;
-    }
-    let mut input = io::large_buffer();
-    let size = io::read_full(file, &mut input);
-    libc::close(file);
+fn show(rt: &(impl Files + Print + Alloc), path: &str) -> io::Result<()> {
+    line(rt, path.as_bytes())?;
+    let mut input = Vec::new(rt.alloc());
+    File::open(rt, path)?.take(MOST).read_to_end(&mut input)?;
     let mut text = text_buffer();
-    tell(&input[..size], &mut text);
+    tell(rt, &input, &mut text)
 }
 
-fn tell(input: &[u8], text: &mut [u8]) {
+fn tell(rt: &impl Print, input: &[u8], text: &mut [u8]) -> io::Result<()> {
     let room = exports::rm_room(input.len());
-    number(b"room ", room as u64);
+    number(rt, b"room ", room as u64)?;
     if room == 0 {
-        return;
+        return Ok(());
     }
     let none = rm_run_in(input, text, room - 1);
-    number(b"rm_run without room ", none as u64);
-    number(b"first byte ", first(text));
+    number(rt, b"rm_run without room ", none as u64)?;
+    number(rt, b"first byte ", first(text))?;
     let end = calls::run(input, text);
-    number(b"calls::run ", end as u64);
+    number(rt, b"calls::run ", end as u64)?;
     let again = rm_run_in(input, text, room);
-    number(b"rm_run ", again as u64);
-    write_part(text, again);
+    number(rt, b"rm_run ", again as u64)?;
+    write_part(rt, text, again)
 }
 
 // `rm_run` with a buffer of so many bytes.
@@ -135,21 +146,23 @@ fn first(text: &[u8]) -> u64 {
     wide(text[0])
 }
 
-fn write_part(text: &[u8], end: usize) {
+fn write_part(rt: &impl Print, text: &[u8], end: usize) -> io::Result<()> {
     if end <= text.len() {
-        io::write_all(STDOUT_FILENO, &text[..end]);
+        rt.write_all(&text[..end])?;
     }
+    Ok(())
 }
 
 // The room and the answer for an input that is longer than is read, and the last line of its text.
-fn tell_end(input: &[u8], text: &mut [u8]) {
-    number(b"room ", exports::rm_room(input.len()) as u64);
+fn tell_end(rt: &impl Print, input: &[u8], text: &mut [u8]) -> io::Result<()> {
+    number(rt, b"room ", exports::rm_room(input.len()) as u64)?;
     let end = exports::rm_run(input, text);
-    number(b"rm_run ", end as u64);
+    number(rt, b"rm_run ", end as u64)?;
     if 6 <= end && end <= text.len() {
         let from = end - 6;
-        io::write_all(STDOUT_FILENO, &text[from..end]);
+        rt.write_all(&text[from..end])?;
     }
+    Ok(())
 }
 
 // One record more than is read, of zeros.
@@ -178,13 +191,12 @@ fn wide_level(level: u16) -> u64 {
     level as u64
 }
 
-fn number(name: &[u8], n: u64) {
-    io::write_all(STDOUT_FILENO, name);
-    io::print_decimal(STDOUT_FILENO, n);
-    io::write_all(STDOUT_FILENO, b"\n");
+fn number(rt: &impl Print, name: &[u8], n: u64) -> io::Result<()> {
+    rt.write_all(name)?;
+    rt.println(n)
 }
 
-fn line(name: &[u8]) {
-    io::write_all(STDOUT_FILENO, name);
-    io::write_all(STDOUT_FILENO, b"\n");
+fn line(rt: &impl Print, name: &[u8]) -> io::Result<()> {
+    rt.write_all(name)?;
+    rt.write_all(b"\n")
 }

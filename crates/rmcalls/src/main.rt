@@ -1,17 +1,19 @@
 // The program `rmcalls` (document 01, "Calls outside the list"): call records from standard input, their lines to standard output. Its stdin
 // and stdout are the document's printed example. What could not be read or written is said on standard error.
-use console::Poured;
-use libc::{STDERR_FILENO, STDIN_FILENO, STDOUT_FILENO};
+#![tactic(auto)]
 
-fn main() {
-    let poured = console::pour(STDIN_FILENO, STDOUT_FILENO);
+use console::Poured;
+use std::io;
+
+fn main(rt: HostRuntime) -> io::Result<()> {
+    let poured = console::pour(&mut rt.stdin(), &mut io::writer(&rt));
     match poured {
-        Poured::Whole => {},
-        Poured::NotWritten => say(b"rmcalls: not all of the text could be written\n"),
-        Poured::NotRead => say(b"rmcalls: the input could not be read to its end\n"),
+        Poured::Whole => Ok(()),
+        Poured::NotWritten => say(&rt, "rmcalls: not all of the text could be written"),
+        Poured::NotRead => say(&rt, "rmcalls: the input could not be read to its end"),
     }
 }
 
-fn say(line: &[u8]) {
-    io::write_all(STDERR_FILENO, line);
+fn say(rt: &impl Eprint, line: &str) -> io::Result<()> {
+    rt.eprintln(line)
 }

@@ -1,31 +1,30 @@
 // Runs `rmcalls` on each file of data/, and writes the file's name before its text: every refusal that the program can give but 19, leftover bytes, no
 // bytes, 4,096 (one piece of a run, and nothing after it), 8,205 (two, a record and leftover bytes), more than 65,536, and a cell that is spent (19). The
 // expected text is not the engine's own: scripts/reference reckons it by the documents' definitions.
-use console::Poured;
-use libc::STDOUT_FILENO;
+#![tactic(auto)]
 
-fn main() {
-    show(b"refusals");
-    show(b"left");
-    show(b"empty");
-    show(b"piece");
-    show(b"cut");
-    show(b"full");
-    show(b"spent");
+use console::Poured;
+use std::fs::File;
+use std::io;
+use std::rt::Files;
+
+fn main(rt: HostRuntime) -> io::Result<()> {
+    show(&rt, "refusals")?;
+    show(&rt, "left")?;
+    show(&rt, "empty")?;
+    show(&rt, "piece")?;
+    show(&rt, "cut")?;
+    show(&rt, "full")?;
+    show(&rt, "spent")
 }
 
-fn show(path: &[u8]) {
-    io::write_all(STDOUT_FILENO, path);
-    io::write_all(STDOUT_FILENO, b"\n");
-    let file = os::open_read(path);
-    if file < 0 {
-        os::fail(path);
-        return;
-    }
-    let poured = console::pour(file, STDOUT_FILENO);
+fn show(rt: &(impl Files + Print), path: &str) -> io::Result<()> {
+    rt.println(path)?;
+    let mut file = File::open(rt, path)?;
+    let poured = console::pour(&mut file, &mut io::writer(rt));
     match poured {
-        Poured::Whole => {},
-        _ => os::fail(path),
+        Poured::Whole => Ok(()),
+        Poured::NotWritten => Err(io::Error::other("not all of the text could be written")),
+        Poured::NotRead => Err(io::Error::other("the file could not be read to its end")),
     }
-    libc::close(file);
 }
