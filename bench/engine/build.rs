@@ -1,4 +1,4 @@
-//! Links the static library of the crate `exports`.
+//! Links the static library of the crate `exports_c`.
 
 use std::{env, path::Path, process};
 
@@ -8,7 +8,7 @@ fn main() {
     let library = folder.join("libexports.a");
     println!("cargo::rerun-if-changed={}", library.display());
     if !library.is_file() {
-        println!("cargo::error=no target/staticlib/libexports.a: run `rt staticlib exports` first");
+        println!("cargo::error=no target/staticlib/libexports.a: run scripts/build first");
         process::exit(1);
     }
     println!("cargo::rustc-link-search=native={}", folder.display());

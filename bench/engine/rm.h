@@ -1,5 +1,5 @@
 /* The rank modulation rewrite engine as a static library for x86-64 Linux:
- * target/staticlib/libexports.a, built by `rt staticlib exports`. The functions keep no global
+ * target/staticlib/libexports.a, built by `scripts/build library`. The functions keep no global
  * state, allocate nothing, do no input or output and always return; any threads may call them at
  * once. */
 #ifndef RM_H
