@@ -1,6 +1,8 @@
 // The calls that join the one-error code and the group (document 01, "The plain machine", "Calls outside the list"): read, store, scrub and
 // alike. Every public function takes any record and answers it by one equation with a definition of specs/. Proved besides: what is stored is
 // read (proofs/Holds), what is scrubbed is read (proofs/Scrubs).
+#![tactic(auto)]
+
 ghost use Rattle.std.specs.Prelude.{◌≡◌, false};
 ghost use Rattle.std.proofs.Math.Option.{some};
 ghost use Rattle.order.specs.Refusals.{outcome_number, if_done};
@@ -14,27 +16,27 @@ use group::Group;
 use order::{Outcome, Refusal};
 use push_up::{Push, Written};
 
-#[derive(Drop)]
+#[derive(Clone, Copy)]
 pub enum ReadAnswer {
     Refused(Refusal),
     Read { symbol: u32, verdict: Verdict },
 }
 
-#[derive(Drop)]
+#[derive(Clone, Copy)]
 pub enum AlikeAnswer {
     Refused(Refusal),
     Alike(bool),
 }
 
 // The verdict of a reading, where there was one.
-#[derive(Drop)]
+#[derive(Clone, Copy)]
 pub enum Judged {
     Nothing,
     By(Verdict),
 }
 
 // The answer of scrub and of apply: the verdict of the reading stands inside it.
-#[derive(Drop)]
+#[derive(Clone, Copy)]
 pub struct Applied {
     pub outcome: Outcome,
     pub group: Group,
