@@ -8,7 +8,7 @@
 --   is_step n w s        a step from window to window is from 1 up to the width, and divides n
 --   limit_checks n w s   the checks of a width and a step: 13 for each
 --   opened_run n         the record of n cells with every one of its levels 0
---   no_run               the all_zero_lem record
+--   no_run               the all-zero record
 --   told_run a           what the answer to an open or a raise says: its number, and the run
 --   open_run_of n         the answer to an open: 13
 --   cell_checks r c      the checks of a run and of one of its cells: 13, 3
