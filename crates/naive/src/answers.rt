@@ -5,7 +5,7 @@ use push_up::Push;
 
 // The answer of every call. `judged` says that there is a verdict: clean at place 0, else put right at that place. The pushes stand from
 // low to high, and the pulses are the sum of their rises.
-#[derive(Drop)]
+#[derive(Clone, Copy)]
 pub struct Answer {
     pub number: u8,
     pub group: Group,

@@ -3,6 +3,8 @@
 // answer is a plain record: a number of the refusal table, and zeros beside a refusal. Every function is proved safe and ending; none says
 // what it computes. Here are orders and the list of words, and what the calls on symbols, groups and runs are made of, which are in
 // `naive_calls`.
+#![tactic(auto)]
+
 pub mod answers;
 pub mod levels;
 pub mod numbers;

@@ -4,19 +4,19 @@ use coordinates::Coordinates;
 use order::{Cell, Order, Rank};
 use ranks::Ranks;
 
-#[derive(Drop)]
+#[derive(Clone, Copy)]
 pub struct OrderFound {
     pub number: u8,
     pub order: Order,
 }
 
-#[derive(Drop)]
+#[derive(Clone, Copy)]
 pub struct RanksFound {
     pub number: u8,
     pub ranks: Ranks,
 }
 
-#[derive(Drop)]
+#[derive(Clone, Copy)]
 pub struct CoordinatesFound {
     pub number: u8,
     pub coordinates: Coordinates,

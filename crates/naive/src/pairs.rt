@@ -3,13 +3,13 @@ use crate::numbers::{at, wide, wide32};
 use crate::orders::{cells_of, check_pair, places};
 use order::Order;
 
-#[derive(Drop)]
+#[derive(Clone, Copy)]
 pub struct NumberFound {
     pub number: u8,
     pub value: u32,
 }
 
-#[derive(Drop)]
+#[derive(Clone, Copy)]
 pub struct DisplacementsFound {
     pub number: u8,
     pub values: [i8; 12],

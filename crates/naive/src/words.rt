@@ -7,7 +7,7 @@ use crate::pairs::{NumberFound, opposed};
 use order::Order;
 
 // A list of coordinates on the way through all of them in dictionary order, coordinate 1 first: coordinate i at index i.
-#[derive(Drop)]
+#[derive(Clone, Copy)]
 pub struct Listing {
     pub n: usize,
     pub values: [u8; 12],
@@ -15,7 +15,7 @@ pub struct Listing {
 }
 
 // What a reading finds. The place is 0 where nothing is put right.
-#[derive(Drop)]
+#[derive(Clone, Copy)]
 pub struct Reading {
     pub number: u8,
     pub symbol: u32,
@@ -24,7 +24,7 @@ pub struct Reading {
 }
 
 // What a sweep holds: coordinate i at index i, and the weighted sum.
-#[derive(Drop)]
+#[derive(Clone, Copy)]
 pub struct SweepFound {
     pub number: u8,
     pub len: usize,
