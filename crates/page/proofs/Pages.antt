@@ -12,7 +12,6 @@ use borrow.Author.Tests.{leb-true, le-leb, lt-leb, eq-eqb, ne_eqb}
 use Rattle.order.specs.declared.Refusal.{Refusal}
 use Rattle.order.specs.declared.Refusal.TheVariants.{NoPage}
 use Rattle.order.specs.declared.Outcome.{Outcome}
-use Rattle.order.specs.declared.Outcome.TheVariants.{Refused}
 use Rattle.order.specs.Refusals.{refusal_number, outcome_number, Told}
 use Rattle.order.proofs.Cells.{both}
 use Rattle.order.proofs.Refusals.{not-zero}

@@ -1,5 +1,7 @@
 // A page of groups (document 02, request (d)): the record, whether it is a page, and the page read. A page is handed in by value. Every public function
 // takes any record and answers it by one equation with a definition of specs/.
+#![tactic(auto)]
+
 ghost use Rattle.std.specs.Prelude.{◌≡◌, true};
 ghost use Rattle.order.specs.Refusals.{outcome_number};
 ghost use Rattle.engine.specs.ReadStore.{told_read};
@@ -10,7 +12,7 @@ use group::Group;
 use order::{Outcome, Refusal};
 
 // The groups 1 to count, group k at index k - 1. What stands after them is not looked at, and comes back as it was.
-#[derive(Drop)]
+#[derive(Clone, Copy)]
 pub struct Page {
     pub count: usize,
     pub groups: [Group; 8],
@@ -18,7 +20,7 @@ pub struct Page {
 
 // The answer of a page read: how many symbols, and that of group k at index k - 1; zeros where it is refused. Its group is the first that refuses, 0 where
 // none does or it is no page.
-#[derive(Drop)]
+#[derive(Clone, Copy)]
 pub struct PageRead {
     pub outcome: Outcome,
     pub group: usize,
