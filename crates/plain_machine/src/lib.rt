@@ -2,6 +2,8 @@
 // any record and any call and answers them by one equation with a definition of specs/. Proved besides: a group stays a group under every call, the pushes of
 // a call that raises cells are a push program from the levels found to those left, the pulses of an answer are the rises of its levels (proofs/Machine), and
 // after a shared write a group is blank (proofs/Blank).
+#![tactic(auto)]
+
 ghost use Rattle.std.specs.Prelude.{◌≡◌};
 ghost use Rattle.group.specs.Record.{told_changed};
 ghost use Rattle.push_up.specs.WriteAnswer.{told_written};
@@ -18,7 +20,7 @@ use sharing::Ranked;
 // One of the eight calls of demand 3, with its numbers. The target of a write stands beside it in the call; the rank sizes there are for a shared write
 // alone. A write or a shared write into a lent list has the room of the list, that is, how many places it has; `push_list` puts the pushes there, and here
 // they come by value too.
-#[derive(Drop)]
+#[derive(Clone, Copy)]
 pub enum Kind {
     Write,
     WriteInto(usize),
@@ -32,7 +34,7 @@ pub enum Kind {
     Read,
 }
 
-#[derive(Drop)]
+#[derive(Clone, Copy)]
 pub struct Call {
     pub kind: Kind,
     pub target: Ranked,
