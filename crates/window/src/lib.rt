@@ -2,6 +2,8 @@
 // with the definitions of specs/ fix its answer and both of the lists that it is lent. Proved besides, in `window_laws`: a window's number is below
 // the factorial of its width, numbers and orders of a width determine each other, level cells go by their numbers in the window, and a ring turned by
 // a step has its numbers turned by one.
+#![tactic(auto)]
+
 ghost use Rattle.std.specs.Prelude.{◌≡◌, cond, ◌+◌, ◌%◌, ◌≤◌, ◌<◌, length};
 ghost use Rattle.order.specs.Refusals.{outcome_number, number_of};
 ghost use Rattle.coordinates.specs.Coordinates.{coordinate_of};
@@ -14,14 +16,14 @@ use cell_run::Run;
 use order::{Outcome, Refusal};
 
 // How many windows were numbered, or why none was.
-#[derive(Drop)]
+#[derive(Clone, Copy)]
 pub enum WindowsAnswer {
     Refused(Refusal),
     Filled(usize),
 }
 
 // Coordinates i and i + 1 of a window.
-#[derive(Drop)]
+#[derive(Clone, Copy)]
 struct TwoCoordinates {
     here: u32,
     next: u32,
