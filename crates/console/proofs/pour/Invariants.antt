@@ -1,12 +1,6 @@
 -- `console::pour` meets its contract: the run takes each piece, and each text ends within its buffer.
-use borrow.Author.Rules.{rules}
-use mathlib.Core.Path.{◌≡◌, sym}
-use Prim.Native.Nat.{◌-◌, ◌<◌}
-use native.Mathlib.Omega.{arith}
-use lib.ListN.{length, take}
-use lib.Seq.{length-take-le}
-use borrow.Author.Tests.{ltb-true}
-use Rattle.console.proofs.Sent.{Sent, sent_starts, sent_goes_on, sent_ends, sent_steps}
+use Prim.Native.Nat.{◌-◌}
+use Rattle.console.proofs.Sent.{Sent}
 use Rattle.console.proofs.pour.Given as goal
 
 abbrev pub invariant-loop-size : goal.invariant-loop-size
