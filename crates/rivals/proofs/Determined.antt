@@ -177,8 +177,8 @@ module _ (run : Machine) where
 
     pub same_group : after run start cs ≡ after apply_of start cs
     same_group =
-        let size = checked_n _ _ same_checks passes in
-        let mark = checked_mark _ _ same_checks passes in
+        let size = checked_n (after run start cs) (after apply_of start cs) same_checks passes in
+        let mark = checked_mark (after run start cs) (after apply_of start cs) same_checks passes in
         λ i. record { n = size i; levels = same_levels i; caps = same_caps i; used = same_used i; endurance = same_endurance i; written = mark i }
 
     pub same_pulses : pulses_of run start cs ≡ pulses_of apply_of start cs

@@ -3,3 +3,4 @@
 // (proofs/Refuted) and what keeps it from being empty (proofs/Valid). Besides: the cost as the rise of the top level (specs/Rise, proofs/CostRise,
 // proofs/WriteRise), the starred cases as one table (specs/Starred, proofs/Starred), the printed example's calls (proofs/Bench), worked cases
 // of shared writes (proofs/SharedCases).
+#![tactic(auto)]
