@@ -1,5 +1,7 @@
 // Call records (document 01, "Calls outside the list"): `step`, the answer to one record, for any group and any record, by one equation with a
 // definition of specs/. A record is 8 bytes of an input (specs/Records); which record stands where is cited by crate `calls`, which reads them.
+#![tactic(auto)]
+
 ghost use Rattle.std.specs.Prelude.{◌≡◌};
 ghost use Rattle.order.specs.Refusals.{outcome_number};
 ghost use Rattle.plain_machine.specs.Machine.{apply_of};
@@ -13,7 +15,7 @@ use plain_machine::{Call, Kind};
 const ENDURANCE: u32 = 1000000;
 
 // A call record: its two zero bytes are one field.
-#[derive(Drop)]
+#[derive(Clone, Copy)]
 pub struct CallRecord {
     pub kind: u8,
     pub cell: Cell,
@@ -22,7 +24,7 @@ pub struct CallRecord {
 }
 
 // What the program keeps of an answer: the verdict and the pushes are in no line.
-#[derive(Drop)]
+#[derive(Clone, Copy)]
 pub struct Answered {
     pub outcome: Outcome,
     pub group: Group,
@@ -31,7 +33,7 @@ pub struct Answered {
 }
 
 // What a record asks for. No record asks for a write.
-#[derive(Drop)]
+#[derive(Clone, Copy)]
 pub enum Request {
     Bad,
     Open(u32),
