@@ -1,6 +1,8 @@
 // The page store (document 02, request (d)): one symbol a group is stored in all groups of a page or in none. The page goes in by value and comes back
 // by value. The public function takes any record and any list and answers them by one equation with a definition of specs/. What demand 3 says of the
 // groups of a page is a theorem of `page_laws`.
+#![tactic(auto)]
+
 ghost use Rattle.std.specs.Prelude.{◌≡◌, true};
 ghost use Rattle.order.specs.Refusals.{outcome_number};
 ghost use Rattle.page_store.specs.StoreAnswer.{takes, told_stored, none_stored, store_page_of};
@@ -9,7 +11,7 @@ use order::{Outcome, Refusal};
 use page::Page;
 
 // The answer of a page store. Its group is the first that refuses, 0 where none does, it is no page or there is not one symbol a group.
-#[derive(Drop)]
+#[derive(Clone, Copy)]
 pub struct PageStored {
     pub outcome: Outcome,
     pub group: usize,
