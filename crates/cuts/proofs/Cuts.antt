@@ -24,13 +24,13 @@ runs_front : {ps : List Push} {ls ms : List ℕ} (k : ℕ) → Runs ps ls ms →
 unfolding played
 runs_front zero r = rest
 runs_front (suc k) rest = rest
-runs_front (suc k) (next i s l r) = next i s l (runs_front k r)
+runs_front {ls = ls} {ms = ms} (suc k) (next {p = p} {ps = ps} i s l r) = next i s l (runs_front {ps = ps} k r)
 
 runs_back : {ps : List Push} {ls ms : List ℕ} (k : ℕ) → Runs ps ls ms → Runs (drop k ps) (played (take k ps) ls) ms
 unfolding played
 runs_back zero r = r
 runs_back (suc k) rest = rest
-runs_back (suc k) (next i s l r) = runs_back k r
+runs_back {ls = ls} {ms = ms} (suc k) (next {p = p} {ps = ps} i s l r) = runs_back {ps = ps} k r
 
 -- a program lowers no cell
 runs_above : {ps : List Push} {ls ms : List ℕ} → Runs ps ls ms → AtMost ls ms
