@@ -1,4 +1,4 @@
--- Worked cases of cuts and of take_overs, about the definitions, in the records of the table of starred cases (rivals, specs Starred).
+-- Worked cases of cuts and of take-overs, about the definitions, in the records of the table of starred cases (rivals, specs Starred).
 -- Assumes nothing.
 use Prim.Native.Nat.{ℕ}
 use mathlib.Core.Path.{◌≡◌, refl}
@@ -108,7 +108,7 @@ pub scrub_misled :
 unfolding refusals.answer refusals.number_of is_row all_at_most is_given take_over_of taken_at levels_at played level put at_most singles top floor_over lift raise push_of rank_pushes pushes pulses_in raised fits lasts tallied pushed store_of scrub_of apply_of word_of order_from K word_at words vectors vectors_from joined select leaves weight stands_above insert sorted sensed read_of reading_at correction first_below is_codeword symbol_of word_number index_of same coordinates_to coordinate_of
 scrub_misled = (refl, refl, refl, refl, refl, refl)
 
--- ---- take_overs: a cap below its level is taken over, and so are used pulses up to the endurance, also fewer than a level would take; a list of another length, a
+-- ---- take-overs: a cap below its level is taken over, and so are used pulses up to the endurance, also fewer than a level would take; a list of another length, a
 -- level or cap above 4,095, used pulses above the endurance, an endurance outside its range and a size that no group has are not
 
 pub take_overs :

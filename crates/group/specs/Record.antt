@@ -11,7 +11,7 @@
 --   IsGroup g           the record is a group: it passes the checks, and has twelve levels, twelve caps and twelve numbers of used pulses
 --   fresh n cs e        a record of n cells with these caps and this endurance: levels 0, no used pulses, not written
 --   opened n e          levels 0, caps 4,095, no used pulses, the endurance e, not written
---   no_group             the all_zero_lem record
+--   no_group             the all-zero record
 --   changed g ls cs us w   the record with these levels, caps, used pulses and mark, and all else as it was
 --   with_levels g ls, with_caps g cs, with_used g us, with_mark w g    the record with other levels, other caps, other used pulses, or the mark w
 --   programmed w g ls   the record raised to these levels, with each cell's rise added to its used pulses, and the mark w

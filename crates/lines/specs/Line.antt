@@ -4,7 +4,7 @@
 --   decimal n           n in base ten, without leading zeros
 --   after mark n        a mark, and n after it
 --   after_commas xs      each number with a comma before it
---   level_text xs        levels joined by commas; `-` where there is no cell, as in the all_zero_lem record
+--   level_text xs        levels joined by commas; `-` where there is no cell, as in the all-zero record
 --   numbers_of           position, kind, refusal, symbol and pulses, with single blanks between them
 --   line_of k kind a     a record's line: these numbers, and the levels of cells 1 to n after the call
 --   left_line k          `left` and the count of leftover bytes, if any

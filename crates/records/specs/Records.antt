@@ -11,7 +11,7 @@
 --   Answer              what the program keeps of an answer: the group after the call, the symbol (0 but for store, scrub and read), the pulses
 --   told_answered a      what an answer says: its number, and what is kept
 --   group_alone g        the group and nothing else
---   call_of kind         the call of the machine that a record asks for: none is a write, so the order beside it is the all_zero_lem one
+--   call_of kind         the call of the machine that a record asks for: none is a write, so the order beside it is the all-zero one
 --   after_apply t        what is kept of an answer of the machine
 --   after_open g t       what is kept of the answer to an open: a refused one keeps the group it had
 --   opening n           the answer to the open that a record asks for: its group has the endurance 1,000,000

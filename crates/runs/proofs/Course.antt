@@ -1,5 +1,5 @@
 -- The records of a stream as calls of demand 3: from a group on, records that are no open are a list of calls of the machine. And the group
--- that a stream has is the all_zero_lem record or one of 3 to 12 cells.
+-- that a stream has is the all-zero record or one of 3 to 12 cells.
 -- Assumes nothing.
 use mathlib.Core.Path.{◌≡◌, refl, sym, ap, ◌∙◌, subst}
 use mathlib.Core.Logic.{◌⊎◌, inl, inr}
@@ -85,7 +85,7 @@ stream_pulses g (r ∷ rs) h =
     ∙ ap (λ (t : Told Answer). t.value.pulses + pulses_of apply_of t.value.group (calls_of rs)) (by_request g r (request_of r) refl)
     ∙ pulses_asked g (calls_of rs) (request_of r) h.0
 
--- ---- the all_zero_lem record, or a group
+-- ---- the all-zero record, or a group
 
 abbrev pub Begun : Group → Type 0
 Begun g = (g ≡ no_group) ⊎ IsGroup g
@@ -94,7 +94,7 @@ Begun g = (g ≡ no_group) ⊎ IsGroup g
 abbrev Leaves : Group → Request → Type 0
 Leaves g q = Begun (step_by g q).value.group
 
--- a call that leaves the all_zero_lem record, as every call of a record does
+-- a call that leaves the all-zero record, as every call of a record does
 apply_begun : (g : Group) (kind : Kind) → (apply_of no_group (call_of kind)).value.group ≡ no_group → Begun g → Leaves g (Apply kind)
 apply_begun g kind z (inl e) = inl (ap (λ (h : Group). (apply_of h (call_of kind)).value.group) e ∙ z)
 apply_begun g kind z (inr h) = inr (apply_group g (call_of kind) h)
@@ -133,7 +133,7 @@ request_begun g r b = by (unused_zero r)
 pub step_begun : (g : Group) (r : CallRecord) → Begun g → Begun (step_of g r).value.group
 step_begun g r b = subst (λ (t : Told Answer). Begun t.value.group) (sym (by_request g r (request_of r) refl)) (request_begun g r b)
 
--- the group that a stream has is the all_zero_lem record or a group: `-` stands for the all_zero_lem record alone
+-- the group that a stream has is the all-zero record or a group: `-` stands for the all-zero record alone
 pub stream_begun : (g : Group) (rs : List CallRecord) → Begun g → Begun (group_after g rs)
 stream_begun g [] b = b
 stream_begun g (r ∷ rs) b = stream_begun (step_of g r).value.group rs (step_begun g r b)

@@ -38,7 +38,7 @@ text_cut p xs ys e =
     ∙ ap (λ (t : List ℕ). t ++ sum) (append_assoc (lines_from p (records xs)) (lines_from next (records ys)) left)
     ∙ append_assoc (lines_from p (records xs)) (lines_from next (records ys) ++ left) sum
 
--- ---- where a run that begins with the all_zero_lem record can stand
+-- ---- where a run that begins with the all-zero record can stand
 
 pub record Stands (p : Progress) : Type 0 where
   pub begun : Begun p.group

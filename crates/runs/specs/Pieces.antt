@@ -1,7 +1,7 @@
 -- Document 01, "Calls outside the list": a run made in pieces of its input.
 --
 --   group_after g rs        the group that records leave, the first of which is handed the group g
---   beginning              where a run stands before its first record: at position 0, with the all_zero_lem record and no pulses
+--   beginning              where a run stands before its first record: at position 0, with the all-zero record and no pulses
 --   progress_after p rs     where a run that stood at p stands after some records
 --   lines_from p rs         the lines of some records, in a run that stood at p
 --   text_from p bs          what is printed for the last piece: its lines, its leftover bytes, and the pulses of all records

@@ -21,7 +21,7 @@ unfoldable pub all_pulses : Group → List CallRecord → ℕ
 all_pulses g [] = 0
 all_pulses g (r ∷ rs) = (step_of g r).value.pulses + all_pulses (step_of g r).value.group rs
 
--- ---- a run, which begins with the all_zero_lem record
+-- ---- a run, which begins with the all-zero record
 
 unfoldable pub text_of : List ℕ → List ℕ
 text_of bs = lines 1 no_group (records bs) ++ left_line (length bs % 8) ++ sum_line (all_pulses no_group (records bs))
