@@ -2,3 +2,4 @@
 // by a list of calls of its own, and demand 3 holds of it (specs/PageLists, proofs/PageDemand3); what that determines of a page store
 // (proofs/Determined), page stores that fail it (proofs/Refuted), and that it speaks of something (proofs/Valid). What is stored is read (proofs/Holds);
 // worked cases (proofs/Bench).
+#![tactic(auto)]
