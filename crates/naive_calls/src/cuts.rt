@@ -8,7 +8,7 @@ use naive::numbers::{put16, wide16};
 use push_up::Push;
 
 // What a cut leaves: the levels and the used pulses there, and the pulses up to it.
-#[derive(Drop)]
+#[derive(Clone, Copy)]
 pub struct Cut {
     pub levels: [u16; 12],
     pub used: [u32; 12],

@@ -3,7 +3,7 @@ use crate::symbols::all_words;
 use naive::numbers::{add, is_size, times, wide32};
 
 // The answer to a load, and the list after it.
-#[derive(Drop)]
+#[derive(Clone, Copy)]
 pub struct LoadFound {
     pub number: u8,
     pub state: u32,

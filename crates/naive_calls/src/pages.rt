@@ -4,13 +4,13 @@ use crate::machine::{reading, store};
 use page::Page;
 
 // The symbols of a page store: so many, from the first place on.
-#[derive(Drop)]
+#[derive(Clone, Copy)]
 pub struct Symbols {
     pub len: usize,
     pub places: [u32; 9],
 }
 
-#[derive(Drop)]
+#[derive(Clone, Copy)]
 pub struct PageStored {
     pub number: u8,
     pub group: usize,
@@ -18,7 +18,7 @@ pub struct PageStored {
     pub pulses: u32,
 }
 
-#[derive(Drop)]
+#[derive(Clone, Copy)]
 pub struct PageRead {
     pub number: u8,
     pub group: usize,

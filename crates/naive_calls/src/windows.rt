@@ -5,14 +5,14 @@ use naive::numbers::{add, byte, is_size, narrow16, remainder, times, wide16};
 use naive::orders::coordinates_at;
 use order::Cell;
 
-#[derive(Drop)]
+#[derive(Clone, Copy)]
 pub struct RunFound {
     pub number: u8,
     pub run: Run,
 }
 
 // Two lists, of which a call for windows is lent the first places: so many of the numbers, and so many of the scratch.
-#[derive(Drop)]
+#[derive(Clone, Copy)]
 pub struct Lists {
     pub room: usize,
     pub places: usize,
@@ -21,7 +21,7 @@ pub struct Lists {
 }
 
 // The answer to a call for windows, and the lists after it.
-#[derive(Drop)]
+#[derive(Clone, Copy)]
 pub struct WindowsFound {
     pub number: u8,
     pub count: usize,
