@@ -3,6 +3,8 @@
 // the place after the line, with one equation for this answer and one for the buffer; that the answer is within the room of the line follows. Where
 // there is not the room that every line of its kind fits into, the buffer stays as it was and the answer is the place handed in. That place has 32
 // bits, so that one comparison of 64 bits tells the room.
+#![tactic(auto)]
+
 ghost use Rattle.std.specs.Prelude.{◌≡◌, [], ◌∷◌, ◌++◌, ◌+◌, ◌*◌, ◌/◌, ◌%◌, ◌≤◌, ◌<◌, length, take};
 ghost use Rattle.records.specs.Records.{told_answered};
 ghost use Rattle.lines.specs.Line.{decimal, after, level_text, numbers_of, line_of, left_line, sum_line, pasted, in_room};
