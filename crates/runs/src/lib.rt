@@ -2,6 +2,8 @@
 // and, as definitions, the text that it prints (specs/Text, specs/Pieces). Every public function takes any numbers. Proved besides: the printed
 // example (proofs/Example), that a run in pieces prints the text of the whole (proofs/Pieces), and that the records from a group up to the next
 // open are a list of calls of demand 3 (proofs/Course).
+#![tactic(auto)]
+
 ghost use Rattle.std.specs.Prelude.{◌≡◌, ◌&&◌, ◌%◌, min, eqb};
 ghost use Rattle.runs.specs.Text.{room};
 ghost use Rattle.runs.specs.Pieces.{beginning, takes};
@@ -15,7 +17,7 @@ const MOST: usize = 65536;
 const MOST_PULSES: u64 = 4294967295;
 
 // Where a run stands between two pieces of its input: the position of the last record answered, the group that it left, and the pulses of all.
-#[derive(Drop)]
+#[derive(Clone, Copy)]
 pub struct Progress {
     pub position: u32,
     pub group: Group,
@@ -23,7 +25,7 @@ pub struct Progress {
 }
 
 // Where the lines of a piece end, and where the run then stands.
-#[derive(Drop)]
+#[derive(Clone, Copy)]
 pub struct PieceAnswer {
     pub end: usize,
     pub progress: Progress,
