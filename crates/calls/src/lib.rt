@@ -1,6 +1,8 @@
 // The text that the program `rmcalls` prints, put into a lent buffer (document 01, "Calls outside the list"): `run`, for a whole input; `go_on` and
 // `finish`, for the pieces of one. Each has an equation for its answer and one for the buffer. Records are answered by `records::step`, and their
 // lines put by crate `lines`; where a run stands, and the text, are defined in crate `runs`.
+#![tactic(auto)]
+
 ghost use Rattle.std.specs.Prelude.{◌≡◌, true, ◌++◌, ◌+◌, ◌*◌, ◌/◌, ◌%◌, ◌≤◌, ◌<◌, length, drop};
 ghost use Rattle.records.specs.Records.{low_first, record_at, records};
 ghost use Rattle.lines.specs.Puts.{Puts};
