@@ -1,6 +1,8 @@
 // The engine for programs in C and Rust (`exports_c` exports these functions): the interpreter of call records, the room that its text needs, the number of
 // codewords, the numbers of the windows along a run, and test loads. Each function takes anything, and equations with the definitions of `runs`,
 // `code`, `window` and `load` determine what it answers and leaves. Proved besides: a buffer of the length that `rm_room` answers takes the whole text (runs, proofs/Room).
+#![tactic(auto)]
+
 ghost use Rattle.std.specs.Prelude.{◌≡◌, ◌++◌, min, length, drop};
 ghost use Rattle.code.specs.Symbols.{words_of};
 ghost use Rattle.runs.specs.Text.{room, printed};
