@@ -1,6 +1,6 @@
 // The program `rmcalls` between a reader and a writer: reads pieces, runs them, writes their text. No contract says what is read and written. Proved is
 // that no piece is refused: a run takes each piece that is handed to it (`take_piece`, `take_last`), since it stands where the bytes of the pieces
-// before leave it (proofs/Sent), and by `pieces-print` (runs, proofs/Pieces) such pieces print the text of the whole. Tested, not proved, is that
+// before leave it (proofs/Sent), and by `pieces_print` (runs, proofs/Pieces) such pieces print the text of the whole. Tested, not proved, is that
 // the pieces read are those run, and that their text is what is written.
 #![tactic(auto)]
 

@@ -6,7 +6,7 @@ use Prim.Native.Nat.{ℕ, ◌≤◌}
 use native.Mathlib.Omega.{arith}
 use lib.ListN.{length, take}
 use lib.Seq.{length-take-le}
-use Rattle.console.proofs.Sent.{Sent, sent_starts, sent_goes_on, sent_ends, sent_steps}
+use Rattle.console.proofs.Sent.{sent_starts, sent_goes_on, sent_ends, sent_steps}
 use Rattle.console.proofs.pour.Goals as goal
 
 pub loop-size-init : goal.loop-size-init
