@@ -1,5 +1,4 @@
 -- `library::list_scratch` meets its contract.
-use borrow.Author.Rules.{rules}
 use Prim.Native.Nat.{◌-◌, ◌≤◌}
 use lib.ListN.{length}
 use Rattle.library.proofs.list_scratch.Given as goal

@@ -1,5 +1,4 @@
 -- `library::words` meets its contract.
-use borrow.Author.Rules.{rules}
 use Prim.Native.Nat.{◌-◌, ◌≤◌}
 use Rattle.library.proofs.words.Given as goal
 
