@@ -80,7 +80,7 @@ fn ended<R: Read>(from: &mut R) -> bool {
 }
 
 // Reads until buf is full, the input ends or a read fails, and answers how many bytes stand at the start of buf.
-fn read_full<R: Read>(from: &mut R, buf: &mut [u8]) -> usize
+pub fn read_full<R: Read>(from: &mut R, buf: &mut [u8]) -> usize
     ensures { result ≤ length buf.new }
 {
     let mut done = 0;

@@ -10,11 +10,7 @@ ghost use Rattle.std.specs.Prelude.{◌≡◌, length};
 
 use std::fs::File;
 use std::io;
-use std::io::Read;
 use std::rt::Files;
-
-// The most bytes of a file that are read.
-const MOST: u64 = 65536;
 
 fn main(rt: HostRuntime) -> io::Result<()> {
     words(&rt)?;
@@ -107,12 +103,13 @@ fn list_scratch(rt: &impl Print, scratch: &[u16]) -> io::Result<()> {
 }
 
 // A file's room, answers and text.
-fn show(rt: &(impl Files + Print + Alloc), path: &str) -> io::Result<()> {
+fn show(rt: &(impl Files + Print), path: &str) -> io::Result<()> {
     line(rt, path.as_bytes())?;
-    let mut input = Vec::new(rt.alloc());
-    File::open(rt, path)?.take(MOST).read_to_end(&mut input)?;
+    let mut file = File::open(rt, path)?;
+    let mut input = file_buffer();
+    let size = console::read_full(&mut file, &mut input);
     let mut text = text_buffer();
-    tell(rt, &input, &mut text)
+    tell(rt, &input[..size], &mut text)
 }
 
 fn tell(rt: &impl Print, input: &[u8], text: &mut [u8]) -> io::Result<()> {
@@ -170,6 +167,13 @@ fn long_input() -> [u8; 65544]
     ensures { 65544 ≡ length result }
 {
     [0; 65544]
+}
+
+// Room for as much of a file as is read.
+fn file_buffer() -> [u8; 65536]
+    ensures { 65536 ≡ length result }
+{
+    [0; 65536]
 }
 
 // Room for the longest text.
