@@ -1,7 +1,7 @@
 #!/usr/bin/env python3
 """Gives the definitions and lemmas of specs/ and proofs/ the spelling of today's Rattle: words in snake case.
 
-usage: python3 tools/respell.py      at the top of the repository, once, after port.py
+usage: python3 tools/respell.py      at the top of the repository, once, after port.py: a second run would turn five names again
 
 tools/respell.tsv has each old name and its new one. A lemma whose name would fall together with its function's ends in `_lem`.
 Functions of src/, exported names, strings, inputs and outputs keep their names.
