@@ -11,12 +11,12 @@ use lib.ListN.{length, drop}
 use lib.Seq.{drop-cons, drop-length}
 use borrow.Author.Tests.{leb-true}
 use Rattle.order.specs.Refusals.{Told}
+use Rattle.group.specs.declared.Group.{Group}
 use Rattle.order.proofs.Cells.{both}
 use Rattle.order.proofs.Tabulate.{length_tabulate, get_d_tabulate}
 use Rattle.records.specs.declared.CallRecord.{CallRecord}
-use Rattle.records.specs.declared.Answered.{Answered}
 use Rattle.runs.specs.declared.Progress.{Progress}
-use Rattle.records.specs.Records.{record_at, records, Answer, told_answered, step_of}
+use Rattle.records.specs.Records.{record_at, records, Answer, step_of}
 use Rattle.lines.specs.Line.{line_of}
 use Rattle.runs.specs.Text.{lines, all_pulses, room}
 use Rattle.runs.specs.Pieces.{progress_after, lines_from, takes}
@@ -47,20 +47,20 @@ none_left bs =
     ap (λ (k : ℕ). drop k (records bs)) (sym (length_tabulate (length bs / 8) (record_at bs))) ∙ drop-length (records bs)
 
 -- one record more
-module _ (q : Progress) (r : CallRecord) (a : Answered) (s : told_answered a ≡ step_of q.group r) where
-  pub after_one : progress_after q (r ∷ []) ≡ record { position = q.position + 1; group = a.group; pulses = q.pulses + a.pulses }
+module _ (q : Progress) (r : CallRecord) (t : Told Answer) (s : t ≡ step_of q.group r) where
+  pub after_one : progress_after q (r ∷ []) ≡ record { position = q.position + 1; group = t.value.group; pulses = q.pulses + t.value.pulses }
   unfolding all_pulses
   after_one =
-      let pulses : q.pulses + ((step_of q.group r).value.pulses + 0) ≡ q.pulses + a.pulses =
-      ap (λ (t : Told Answer). q.pulses + (t.value.pulses + 0)) (sym s) ∙ ap (λ (k : ℕ). q.pulses + k) (add-zero a.pulses) in
-      λ i. record { position = q.position + 1; group = (ap (λ (t : Told Answer). t.value.group) (sym s)) i; pulses = pulses i }
+      let pulses : q.pulses + ((step_of q.group r).value.pulses + 0) ≡ q.pulses + t.value.pulses =
+      ap (λ (u : Told Answer). q.pulses + (u.value.pulses + 0)) (sym s) ∙ ap (λ (k : ℕ). q.pulses + k) (add-zero t.value.pulses) in
+      λ i. record { position = q.position + 1; group = (ap (λ (u : Told Answer). u.value.group) (sym s)) i; pulses = pulses i }
 
-  pub line_one : lines_from q (r ∷ []) ≡ line_of (q.position + 1) r.kind (told_answered a)
+  pub line_one : lines_from q (r ∷ []) ≡ line_of (q.position + 1) r.kind t
   unfolding lines
   line_one =
       let next : suc q.position ≡ q.position + 1 = omega arith in
-      append-nil _ ∙ ap (λ (t : Told Answer). line_of (suc q.position) r.kind t) (sym s)
-      ∙ ap (λ (k : ℕ). line_of k r.kind (told_answered a)) next
+      append-nil _ ∙ ap (λ (u : Told Answer). line_of (suc q.position) r.kind u) (sym s)
+      ∙ ap (λ (k : ℕ). line_of k r.kind t) next
 
 -- the loop: i records of the piece are done, and the run stands at q; what was put and the lines to come are all the lines, and the run goes
 -- from q where it goes from p
@@ -95,20 +95,22 @@ running_starts {p} {bs} {empty} e =
       goes = refl;
     }
 
-pub running_steps : {p q : Progress} {bs empty now later : List ℕ} {count end next i : ℕ} {r : CallRecord} (a : Answered)
-    → Running p bs count empty now q end i → i < count → r ≡ record_at bs i → told_answered a ≡ step_of q.group r → a.pulses < 4294967296
-    → Put 128 end (line_of (q.position + 1) r.kind (told_answered a)) now later next
-    → Running p bs count empty later (record { position = q.position + 1; group = a.group; pulses = q.pulses + a.pulses }) next (i + 1)
-running_steps {p} {q} {bs} {empty} {now} {later} {count} {end} {next} {i} {r} a run h e s b w =
+pub running_steps : {p q : Progress} {bs empty now later : List ℕ} {count end next i pulses : ℕ} {r : CallRecord} {g : Group} (t : Told Answer)
+    → Running p bs count empty now q end i → i < count → r ≡ record_at bs i → t ≡ step_of q.group r → t.value.pulses < 4294967296
+    → Put 128 end (line_of (q.position + 1) r.kind t) now later next
+    → g ≡ t.value.group → pulses ≡ q.pulses + t.value.pulses
+    → Running p bs count empty later (record { position = q.position + 1; group = g; pulses = pulses }) next (i + 1)
+running_steps {p} {q} {bs} {empty} {now} {later} {count} {end} {next} {i} {r = r} t run h e s b w group pulses =
     let rs = drop (i + 1) (records bs) in
-    let after : Progress = record { position = q.position + 1; group = a.group; pulses = q.pulses + a.pulses } in
-    let line = line_of (q.position + 1) r.kind (told_answered a) in
+    let after : Progress = record { position = q.position + 1; group = t.value.group; pulses = q.pulses + t.value.pulses } in
+    let line = line_of (q.position + 1) r.kind t in
     let here : drop i (records bs) ≡ r ∷ rs = next_record bs i (omega (arith, run.whole)) ∙ ap (λ (x : CallRecord). x ∷ rs) (sym e) in
-    let one : progress_after q (r ∷ []) ≡ after = after_one q r a s in
+    let one : progress_after q (r ∷ []) ≡ after = after_one q r t s in
     let text : lines_from q (drop i (records bs)) ≡ line ++ lines_from after rs =
-    ap (lines_from q) here ∙ lines_follow q (r ∷ []) rs ∙ ap (λ (t : List ℕ). t ++ lines_from (progress_after q (r ∷ [])) rs) (line_one q r a s)
+    ap (lines_from q) here ∙ lines_follow q (r ∷ []) rs ∙ ap (λ (u : List ℕ). u ++ lines_from (progress_after q (r ∷ [])) rs) (line_one q r t s)
     ∙ ap (λ (x : Progress). line ++ lines_from x rs) one in
-    record {
+    rw (group, pulses)
+    (record {
       whole = run.whole;
       reached = omega arith;
       few = run.few;
@@ -118,10 +120,10 @@ running_steps {p} {q} {bs} {empty} {now} {later} {count} {end} {next} {i} {r} a 
       small = omega (arith, run.small);
       said = run.said ++ line;
       puts = puts_join run.puts (put_line_lem 128 end line now (omega (arith, h, run.within, run.room, run.puts.kept)) w);
-      rest = append_assoc run.said line (lines_from after rs) ∙ ap (λ (t : List ℕ). run.said ++ t) (sym text) ∙ run.rest;
+      rest = append_assoc run.said line (lines_from after rs) ∙ ap (λ (u : List ℕ). run.said ++ u) (sym text) ∙ run.rest;
       goes =
           ap (λ (x : Progress). progress_after x rs) (sym one) ∙ sym (progress_follows q (r ∷ []) rs) ∙ ap (progress_after q) (sym here) ∙ run.goes;
-    }
+    })
 
 -- where all records are done
 module _ {p q : Progress} {bs empty now : List ℕ} {count end i : ℕ} (run : Running p bs count empty now q end i) (h : count ≤ i) where

@@ -3,18 +3,19 @@
 // lines put by crate `lines`; where a run stands, and the text, are defined in crate `runs`.
 #![tactic(auto)]
 
-ghost use Rattle.std.specs.Prelude.{◌≡◌, true, ◌++◌, ◌+◌, ◌*◌, ◌/◌, ◌%◌, ◌≤◌, ◌<◌, length, drop};
-ghost use Rattle.records.specs.Records.{low_first, record_at, records};
+ghost use Rattle.std.specs.Prelude.{◌≡◌, true, ◌++◌, ◌+◌, ◌*◌, ◌/◌, ◌%◌, ◌≤◌, length, drop};
+ghost use Rattle.records.specs.Records.{record_at, records};
 ghost use Rattle.lines.specs.Puts.{Puts};
 ghost use Rattle.runs.specs.Text.{printed};
 ghost use Rattle.runs.specs.Pieces.{progress_after, lines_from, takes, piece_of, lines_printed, end_printed};
 
 use order::Cell;
-use records::CallRecord;
+use records::{Answered, CallRecord};
 use runs::{PieceAnswer, Progress};
 
 // Puts what `rmcalls` prints for an input at the start of out, and answers how many bytes that is. Where out is shorter than
-// 16 bytes for each byte that is read, and 64, it stays as it was, and the answer is 0: a text is never empty.
+// 16 bytes for each byte that is read, and 64, it stays as it was, and the answer is 0: a text is never empty. 0 here and below, and no option: `printed`,
+// `piece_of` and the C interface tell how many bytes stand there.
 pub fn run(input: &[u8], out: &mut [u8]) -> usize
     ensures value { result ≡ length (printed input.now out.old) }
     ensures out_after { out.new ≡ printed input.now out.old ++ drop result out.old }
@@ -49,65 +50,46 @@ pub fn finish(p: Progress, input: &[u8], out: &mut [u8]) -> usize
         return 0;
     }
     let answered = put_lines(p, input, out);
-    let end = answered.end;
-    let left = lines::put_left(out, end as u32, size % 8);
-    let done = answered.progress;
-    lines::put_sum(out, left as u32, done.pulses)
+    let left = lines::put_left(out, answered.end as u32, size % 8);
+    lines::put_sum(out, left as u32, answered.progress.pulses)
 }
 
 // Record i of the input, from 0.
+#[tactic(auto, unfolding(records::specs::Records::record_at))]
 fn record_at(input: &[u8], i: usize) -> CallRecord
     requires { 8 * i + 8 ≤ length input.now }
     ensures { result ≡ record_at input.now i }
 {
     let at = 8 * i;
-    let low = two_bytes(input, at + 4) as u32;
-    let high = two_bytes(input, at + 6) as u32;
     CallRecord {
         kind: input[at],
         cell: Cell(input[at + 1]),
-        reserved: two_bytes(input, at + 2),
-        value: low + 65536 * high,
+        reserved: u16::from_le_bytes([input[at + 2], input[at + 3]]),
+        value: u32::from_le_bytes([input[at + 4], input[at + 5], input[at + 6], input[at + 7]]),
     }
 }
 
-// The number in two bytes.
-fn two_bytes(input: &[u8], at: usize) -> u16
-    requires { at + 2 ≤ length input.now }
-    ensures { result ≡ low_first 2 at input.now }
-{
-    wide(input[at]) + 256 * wide(input[at + 1])
-}
-
-fn wide(b: u8) -> u16
-    ensures { (result ≡ b) × (result < 256) }
-{
-    b as u16
-}
-
-// The lines of the whole records of a piece, at the start of out.
+// The lines of the whole records of a piece, at the start of out. A refused record leaves the group, and has no pulses.
 fn put_lines(p: Progress, input: &[u8], out: &mut [u8]) -> PieceAnswer
     requires { takes p.position p.pulses (length input.now) (length out.old) ≡ true }
     ensures puts { Puts out.old out.new 0 result.end (lines_from p (records input.now)) }
     ensures end_bound { result.end ≤ 16 * length input.now }
     ensures progress_value { result.progress ≡ progress_after p (records input.now) }
 {
-    let count = input.len() / 8;
-    let handed = p.group;
-    let mut g = group::by_fields(handed);
+    let mut g = group::by_fields(p.group);
     let mut pulses = p.pulses;
     let mut position = p.position;
     let mut end = 0;
-    let mut i = 0;
-    while i < count {
+    for i in 0..input.len() / 8 {
         let r = record_at(input, i);
-        let a = records::step(g, r);
-        i += 1;
+        let (outcome, kept) = match records::step(g, r) {
+            Ok(kept) => (Ok(()), kept),
+            Err(refusal) => (Err(refusal), Answered::alone(g)),
+        };
         position += 1;
-        pulses += a.pulses as u64;
-        let next = a.group;
-        g = group::by_fields(next);
-        end = lines::put_line(out, end as u32, position, r.kind, a);
+        pulses += u64::from(kept.pulses);
+        g = group::by_fields(kept.group);
+        end = lines::put_line(out, end as u32, position, r.kind, outcome, kept);
     }
     PieceAnswer {
         end,

@@ -1,22 +1,18 @@
--- The checks of a run, of its windows' limits and of one of its cells: what a call that passes them knows.
+-- The checks of a run and of its windows' limits: what a call that passes them knows.
 -- Assumes nothing.
-use Prim.Native.Nat.{ℕ, ◌-◌, ◌%◌, ◌≤◌, ◌<◌}
+use Prim.Native.Nat.{ℕ, ◌%◌, ◌≤◌}
 use mathlib.Core.Path.{◌≡◌}
 use mathlib.Core.Bool.{true, ◌&&◌}
 use mathlib.Core.List.{[]}
-use native.Mathlib.Omega.{arith}
 use lib.Dec.{leb, eqb}
 use borrow.Author.Tests.{leb-true}
-use Rattle.order.specs.declared.Cell.{Cell}
-use Rattle.order.specs.declared.Refusal.TheVariants.{NoCell, RunLimit}
+use Rattle.order.specs.declared.Refusal.TheVariants.{RunLimit}
 use Rattle.order.specs.Refusals.{number_of, is_size}
-use Rattle.order.specs.Cells.{is_cell}
 use Rattle.order.proofs.Cells.{both}
-use Rattle.order.proofs.Refusals.{check_held, all_held, size_true}
+use Rattle.order.proofs.Refusals.{check_held, size_true}
 use Rattle.group.specs.Record.{is_row}
-use Rattle.group.proofs.Checks.{cell_true}
 use Rattle.cell_run.specs.declared.Run.{Run}
-use Rattle.cell_run.specs.Run.{is_length, run_checks, is_width, is_step, limit_checks, cell_checks}
+use Rattle.cell_run.specs.Run.{is_length, run_checks, is_width, is_step, limit_checks}
 
 pub length-true : (n : ℕ) → is_length n ≡ true → (3 ≤ n) × (n ≤ 128)
 length-true n e = let t = both (leb 3 n) (leb n 128) e in (leb-true 3 n t.0, leb-true n 128 t.1)
@@ -43,10 +39,3 @@ limits_held n width step d =
     let size = size_true width t.0 in
     let some = (both (leb 1 step) (leb step width) (both (leb 1 step && leb step width) (eqb (n % step) 0) s.0).0).0 in
     record { wide = size.0; narrow = size.1; inside = leb-true width n t.1; forward = leb-true 1 step some }
-
--- a cell of a run has a place among its levels
-pub checked_cell : (r : Run) (c : Cell) → number_of (cell_checks r c) ≡ 0 → (1 ≤ c.0) × (c.0 - 1 < 128)
-checked_cell r c d =
-    let t = all_held _ (run_checks r) d in
-    let range = cell_true r.len c.0 (check_held (is_cell r.len c.0) NoCell [] t.1).0 in
-    (range.0, omega (arith, range.1, checked_length r t.0))

@@ -9,23 +9,22 @@
 --   limit_checks n w s   the checks of a width and a step: 13 for each
 --   opened_run n         the record of n cells with every one of its levels 0
 --   no_run               the all-zero record
---   told_run a           what the answer to an open or a raise says: its number, and the run
+--   told_run a           what the answer to an open says: its number, and the run, or the all-zero record
 --   open_run_of n         the answer to an open: 13
 --   cell_checks r c      the checks of a run and of one of its cells: 13, 3
 --   is_raise old new     the new level is not lower than the old one, nor above 4,095
 --   raise_checks r c v   the checks of a raise: 13, 3, 14
 --   raised_run r c v     the run with cell c at level v
 --   raise_cell_of r c v   the answer to a raise; a refused one returns the run given
-use Rattle.std.specs.Prelude.{ℕ, ◌%◌, Bool, ◌&&◌, List, [], ◌∷◌, ◌++◌, leb, eqb, length, replicate}
+use Rattle.std.specs.Prelude.{ℕ, ◌%◌, Bool, ◌&&◌, List, [], ◌∷◌, ◌++◌, leb, eqb, length, replicate, Result}
 use Rattle.order.specs.declared.Cell.{Cell}
 use Rattle.order.specs.declared.Refusal.{Refusal}
 use Rattle.order.specs.declared.Refusal.TheVariants.{NoCell, RunLimit, NoRaise}
-use Rattle.order.specs.Refusals.{outcome_number, Told, answer, is_size}
+use Rattle.order.specs.Refusals.{Told, told, answer, is_size}
 use Rattle.order.specs.Cells.{is_cell}
 use Rattle.group.specs.Levels.{level, put}
 use Rattle.group.specs.Record.{all_at_most, is_row}
 use Rattle.cell_run.specs.declared.Run.{Run}
-use Rattle.cell_run.specs.declared.RunAnswer.{RunAnswer}
 
 abbrev pub is_length : ℕ → Bool
 is_length n = leb 3 n && leb n 128
@@ -51,8 +50,8 @@ opened_run n = record { len = n; levels = replicate 128 0 }
 abbrev pub no_run : Run
 no_run = opened_run 0
 
-abbrev pub told_run : RunAnswer → Told Run
-told_run a = record { number = outcome_number a.outcome; value = a.run }
+abbrev pub told_run : Result Run Refusal → Told Run
+told_run a = told no_run a
 
 unfoldable pub open_run_of : ℕ → Told Run
 open_run_of n = answer ((is_length n, RunLimit) ∷ []) (opened_run n) no_run

@@ -3,133 +3,87 @@
 // specs/. Proved besides: what an open makes is a group, and a group stays a group (proofs/Groups).
 #![tactic(auto)]
 
-ghost use Rattle.std.specs.Prelude.{◌≡◌, ◌++◌, ◌-◌, ◌≤◌, replicate};
-ghost use Rattle.order.specs.Refusals.{outcome_number, number_of};
-ghost use Rattle.group.specs.Record.{told_changed};
+ghost use Rattle.std.specs.Prelude.{◌≡◌, ◌++◌, ◌-◌, ◌<◌, replicate, IfOk};
+ghost use Rattle.order.specs.Refusals.{outcome_number, number_of, told};
+ghost use Rattle.group.specs.Record.{no_group};
 ghost use Rattle.changes.specs.Changes.{open_of, cell_checks, leak_of, wear_of, erase_of};
 
-use group::{Changed, Group};
-use order::{Cell, Outcome, Refusal};
-
-const MAX_LEVEL: u16 = 4095;
+use group::Group;
+use order::{Cell, Refusal, Size};
 
 // A group of n cells with this endurance, all at 0 with full caps, that have taken no pulses.
-pub fn open(n: usize, endurance: u32) -> Changed
-    ensures { told_changed result ≡ open_of n endurance }
+#[tactic(auto, unfolding(order::specs::Refusals::number_of, order::specs::Refusals::answer, crate::specs::Changes::open_of))]
+pub fn open(n: usize, endurance: u32) -> Result<Group, Refusal>
+    ensures { told no_group result ≡ open_of n endurance }
 {
-    if !order::is_size(n) {
-        return group::unmade(Refusal::Size);
-    }
+    let size = Size::new(n)?;
     if !group::is_endurance(endurance) {
-        return group::unmade(Refusal::Endurance);
+        return Err(Refusal::Endurance);
     }
-    Changed {
-        outcome: Outcome::Done,
-        group: group::fresh(n, full_caps(n), endurance),
-    }
+    Ok(group::fresh(n, full_caps(size), endurance))
 }
 
-// The caps of a new group: 4,095 for each of the n cells.
-fn full_caps(n: usize) -> [u16; 12]
-    requires { n ≤ 12 }
-    ensures { result ≡ replicate n 4095 ++ replicate (12 - n) 0 }
+// The caps of a new group: 4,095 for each of its cells.
+fn full_caps(size: Size) -> [u16; 12]
+    ensures { result ≡ replicate size.cells 4095 ++ replicate (12 - size.cells) 0 }
 {
-    let mut caps = [0u16; 12];
-    let mut i = 0;
-    while i < n {
-        caps[i] = MAX_LEVEL;
-        i += 1;
-    }
+    let mut caps = [0; 12];
+    caps[..size.cells].fill(group::MAX_LEVEL);
     caps
 }
 
 // A cell loses d of its level, but does not fall below 0.
-pub fn leak(g: Group, cell: Cell, d: u32) -> Changed
-    ensures { told_changed result ≡ leak_of g cell d }
+#[tactic(auto, unfolding(order::specs::Refusals::number_of, order::specs::Refusals::answer, crate::specs::Changes::leak_of, group::specs::Levels::leaked, group::specs::Levels::level, group::specs::Levels::put))]
+pub fn leak(mut g: Group, cell: Cell, d: u32) -> Result<Group, Refusal>
+    ensures { told g result ≡ leak_of g cell d }
 {
-    let checked = check_cell(g, cell);
-    let Outcome::Done = checked else {
-        return Changed {
-            outcome: checked,
-            group: g,
-        };
-    };
-    let at = cell.number() - 1;
-    let mut next = g;
-    next.levels[at] = fallen(g.levels[at], d);
-    Changed {
-        outcome: Outcome::Done,
-        group: next,
-    }
+    let at = place_of(g, cell)?;
+    g.levels[at] = fallen(g.levels[at], d);
+    Ok(g)
 }
 
-// The outcome of the checks of a call on one cell.
-fn check_cell(g: Group, cell: Cell) -> Outcome
-    ensures { outcome_number result ≡ number_of (cell_checks g cell) }
+// The checks of a call on one cell, and the cell's place in a row. This and `cell_run::place_of` are twins but for the record: their contracts cite two
+// lists of checks.
+#[tactic(auto, unfolding(order::specs::Refusals::number_of))]
+fn place_of(g: Group, cell: Cell) -> Result<usize, Refusal>
+    ensures outcome { outcome_number result ≡ number_of (cell_checks g cell) }
+    ensures place { IfOk result (λ at. at ≡ cell.0 - 1) }
+    ensures inside { IfOk result (λ at. at < 12) }
 {
-    let checked = group::check(g);
-    let Outcome::Done = checked else {
-        return checked;
-    };
+    group::check(g)?;
     if !group::is_cell(g.n, cell) {
-        return Outcome::Refused(Refusal::NoCell);
+        return Err(Refusal::NoCell);
     }
-    Outcome::Done
+    Ok(cell.number() - 1)
 }
 
 // A level that falls by d, but not below 0.
 fn fallen(level: u16, d: u32) -> u16
     ensures { result ≡ level - d }
 {
-    if d < level as u32 {
-        level - d as u16
-    } else {
-        0
-    }
+    u32::from(level).saturating_sub(d) as u16
 }
 
 // A cell's cap comes down, or stays.
-pub fn wear(g: Group, cell: Cell, cap: u32) -> Changed
-    ensures { told_changed result ≡ wear_of g cell cap }
+#[tactic(auto, unfolding(order::specs::Refusals::number_of, order::specs::Refusals::answer, crate::specs::Changes::wear_of, group::specs::Levels::level, group::specs::Levels::put))]
+pub fn wear(mut g: Group, cell: Cell, cap: u32) -> Result<Group, Refusal>
+    ensures { told g result ≡ wear_of g cell cap }
 {
-    let checked = check_cell(g, cell);
-    let Outcome::Done = checked else {
-        return Changed {
-            outcome: checked,
-            group: g,
-        };
-    };
-    let at = cell.number() - 1;
-    if (g.caps[at] as u32) < cap {
-        return Changed {
-            outcome: Outcome::Refused(Refusal::CapUp),
-            group: g,
-        };
+    let at = place_of(g, cell)?;
+    if u32::from(g.caps[at]) < cap {
+        return Err(Refusal::CapUp);
     }
-    let mut next = g;
-    next.caps[at] = cap as u16;
-    Changed {
-        outcome: Outcome::Done,
-        group: next,
-    }
+    g.caps[at] = cap as u16;
+    Ok(g)
 }
 
 // All levels go to 0 and the mark is cleared. The caps, the used pulses and the endurance stay.
-pub fn erase(g: Group) -> Changed
-    ensures { told_changed result ≡ erase_of g }
+#[tactic(auto, unfolding(order::specs::Refusals::number_of, order::specs::Refusals::answer, crate::specs::Changes::erase_of))]
+pub fn erase(mut g: Group) -> Result<Group, Refusal>
+    ensures { told g result ≡ erase_of g }
 {
-    let checked = group::check(g);
-    let Outcome::Done = checked else {
-        return Changed {
-            outcome: checked,
-            group: g,
-        };
-    };
-    let mut next = g;
-    next.levels = [0; 12];
-    next.written = false;
-    Changed {
-        outcome: Outcome::Done,
-        group: next,
-    }
+    group::check(g)?;
+    g.levels = [0; 12];
+    g.written = false;
+    Ok(g)
 }

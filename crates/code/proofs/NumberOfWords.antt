@@ -8,12 +8,12 @@ use Rattle.order.specs.declared.Refusal.{Refusal}
 use Rattle.order.specs.declared.Refusal.TheVariants.{Size}
 use Rattle.order.specs.Refusals.{Told, answer, is_size}
 use Rattle.order.proofs.Refusals.{not-zero, check_held, check_holds, all_hold, told_done}
-use Rattle.code.specs.declared.WordsAnswer.TheVariants.{Refused, Words}
+use Rattle.std.specs.Prelude.{Ok, Err}
 use Rattle.code.specs.Words.{K}
 use Rattle.code.specs.Symbols.{told_words, words_of}
 
 module _ (n : ℕ) where
-  pub no_size_refused : (r : Refusal) → told_words (Refused r) ≡ words_of n → is_size n ≡ false
+  pub no_size_refused : (r : Refusal) → told_words (Err r) ≡ words_of n → is_size n ≡ false
   unfolding words_of answer
   no_size_refused r e = go (is_size n) refl
     where
@@ -21,7 +21,7 @@ module _ (n : ℕ) where
       go false f = f
       go true f = absurd (not-zero r (ap (λ (t : Told ℕ). t.number) e ∙ check_holds _ _ f ∙ all_hold))
 
-  pub words_are_K : (k : ℕ) → told_words (Words k) ≡ words_of n → (is_size n ≡ true) × (k ≡ K n)
+  pub words_are_K : (k : ℕ) → told_words (Ok k) ≡ words_of n → (is_size n ≡ true) × (k ≡ K n)
   unfolding words_of answer
   words_are_K k e =
       let size = (check_held (is_size n) Size [] (sym (ap (λ (t : Told ℕ). t.number) e))).0 in

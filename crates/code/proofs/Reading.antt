@@ -2,14 +2,14 @@
 -- Assumes nothing.
 use Prim.Native.Nat.{ℕ, zero, suc, ◌+◌, ◌-◌, ◌≤◌, ◌<◌}
 use native.Mathlib.Omega.{arith}
-use mathlib.Core.Path.{◌≡◌, refl, sym, ap, ◌∙◌}
+use mathlib.Core.Path.{◌≡◌, refl, ◌∙◌}
 use mathlib.Core.Bool.{true}
 use mathlib.Core.Option.{some}
+use Rattle.std.specs.Prelude.{Ok, Err}
 use Rattle.order.specs.declared.Order.{Order}
-use Rattle.order.specs.declared.Outcome.TheVariants.{Refused}
 use Rattle.order.specs.declared.Refusal.{Refusal}
 use Rattle.order.specs.declared.Refusal.TheVariants.{Lost}
-use Rattle.order.specs.Refusals.{refusal_number, outcome_number, number_of, if_done, Told, answer, is_size}
+use Rattle.order.specs.Refusals.{refusal_number, number_of, if_done, Told, answer, is_size}
 use Rattle.order.specs.Order.{listed, order_checks, order_record, no_order}
 use Rattle.order.proofs.Refusals.{told_done, told_refused, size_in}
 use Rattle.order.proofs.Records.{passed, passed_listed}
@@ -17,11 +17,11 @@ use Rattle.coordinates.specs.declared.Coordinates.{Coordinates}
 use Rattle.coordinates.specs.Coordinates.{coordinates_to}
 use Rattle.coordinates.specs.Conversion.{coordinates_of}
 use Rattle.distance.specs.Distance.{exchange}
-use Rattle.decoder.specs.declared.NearestAnswer.{NearestAnswer}
+use Rattle.decoder.specs.declared.Found.{Found}
 use Rattle.decoder.specs.Decoding.{is_codeword, correction}
 use Rattle.decoder.specs.Nearest.{decode_checks, exchanged_order, told_nearest, nearest_of}
 use Rattle.decoder.proofs.Stores.{same_length, same_list_lem, exchanged_passes}
-use Rattle.decoder.proofs.NearestWord.{lost_number, found_number, word_near, decoded_order, near_codeword, nearest_number, nearest_zeros, nearest_word, nearest_place, nearest_coordinates}
+use Rattle.decoder.proofs.NearestWord.{lost_number, found_number, word_near, decoded_order, near_codeword, nearest_passed, nearest_not, nearest_word, nearest_place, nearest_coordinates}
 use Rattle.code.specs.declared.Verdict.{Verdict}
 use Rattle.code.specs.declared.Verdict.TheVariants.{Clean, PutRight}
 use Rattle.code.specs.Words.{word_number, symbol_of}
@@ -63,34 +63,34 @@ put_right_at (suc k) l = refl
 
 -- ---- the answer, by that of the decoder
 
-module _ (o : Order) (a : NearestAnswer) (e : told_nearest a ≡ nearest_of o) where
-  pub corrected_refused : (r : Refusal) → a.outcome ≡ Refused r
-      → record { number = refusal_number r; value = record { reading = no_reading; word = a.word } } ≡ corrected_of o
-  unfolding corrected_of
-  corrected_refused r q =
-      let d : number_of (decode_checks o) ≡ refusal_number r = sym (nearest_number o a e) ∙ ap outcome_number q in
-      rw (nearest_zeros o a e r d) (told_refused _ _ _ r d)
+pub corrected_refused : (o : Order) (r : Refusal) → told_nearest (Err r) ≡ nearest_of o
+    → record { number = refusal_number r; value = record { reading = no_reading; word = no_order } } ≡ corrected_of o
+unfolding corrected_of
+corrected_refused o r e = told_refused _ _ _ r (nearest_not o r e)
 
-  module _ (d : number_of (decode_checks o) ≡ 0) where
-    abbrev k : ℕ
-    k = correction o.len (listed o)
+module _ (o : Order) (a : Found) (e : told_nearest (Ok a) ≡ nearest_of o) where
+  abbrev k : ℕ
+  k = correction o.len (listed o)
 
-    near_passes : number_of (order_checks (word_near o)) ≡ 0
-    near_passes = exchanged_passes o (decoded_order o d) k
+  passes : number_of (decode_checks o) ≡ 0
+  passes = nearest_passed o a e
 
-    -- the codeword has a number
-    pub found_word : (is_size (a.coordinates.len + 1) ≡ true) × (is_word (a.coordinates.len + 1) (cut a.coordinates) ≡ true)
-    found_word = coordinates_word (word_near o) near_passes a.coordinates (nearest_coordinates o a e d) (near_codeword o d)
+  near_passes : number_of (order_checks (word_near o)) ≡ 0
+  near_passes = exchanged_passes o (decoded_order o passes) k
 
-    found_symbol : word_number (a.coordinates.len + 1) (cut a.coordinates) ≡ symbol_of o.len (exchange k (listed o))
-    found_symbol =
-        coordinates_number (word_near o) near_passes a.coordinates (nearest_coordinates o a e d)
-        ∙ rw (same_list_lem o (decoded_order o d) k, same_length o (decoded_order o d) k)
+  -- the codeword has a number
+  pub found_word : (is_size (a.coordinates.len + 1) ≡ true) × (is_word (a.coordinates.len + 1) (cut a.coordinates) ≡ true)
+  found_word = coordinates_word (word_near o) near_passes a.coordinates (nearest_coordinates o a e) (near_codeword o passes)
 
-    pub corrected_found : {s : ℕ} {v : Verdict} → s ≡ word_number (a.coordinates.len + 1) (cut a.coordinates) → v ≡ verdict_at a.place
-        → record { number = 0; value = record { reading = record { symbol = s; verdict = some v }; word = a.word } } ≡ corrected_of o
-    unfolding corrected_of reading_at exchanged_order
-    corrected_found p q = rw (p, q, found_symbol, nearest_place o a e d, nearest_word o a e d) (told_done _ _ _ d)
+  found_symbol : word_number (a.coordinates.len + 1) (cut a.coordinates) ≡ symbol_of o.len (exchange k (listed o))
+  found_symbol =
+      coordinates_number (word_near o) near_passes a.coordinates (nearest_coordinates o a e)
+      ∙ rw (same_list_lem o (decoded_order o passes) k, same_length o (decoded_order o passes) k)
+
+  pub corrected_found : {s : ℕ} {v : Verdict} → s ≡ word_number (a.coordinates.len + 1) (cut a.coordinates) → v ≡ verdict_at a.place
+      → record { number = 0; value = record { reading = record { symbol = s; verdict = some v }; word = a.word } } ≡ corrected_of o
+  unfolding corrected_of reading_at exchanged_order
+  corrected_found p q = rw (p, q, found_symbol, nearest_place o a e, nearest_word o a e) (told_done _ _ _ passes)
 
 -- the codeword found
 pub corrected_word : (o : Order) → (corrected_of o).number ≡ 0 → (corrected_of o).value.word ≡ order_record (exchange (correction o.len (listed o)) (listed o))

@@ -1,10 +1,8 @@
 -- One coordinate's step, in the terms of the functions: n cells, coordinate i, the residue r that all from i on must leave.
 -- Assumes nothing.
 use mathlib.Core.Path.{◌≡◌, refl, ap, ◌∙◌}
-use mathlib.Core.Logic.{⊎_elim}
 use mathlib.Core.List.{List, [], ◌∷◌}
 use Prim.Native.Nat.{ℕ, suc, ◌+◌, ◌-◌, ◌≤◌, ◌<◌}
-use native.Mathlib.Nat.{eq-or-lt_of_le}
 use native.Mathlib.Numerals.{add-one}
 use native.Mathlib.Omega.{arith}
 use lib.ListN.{get_or}
@@ -61,11 +59,6 @@ module _ (n i r : ℕ) (h : i < n) where
   pub before_next : (v : ℕ) → v ≤ i → before n i r v + having n i r v ≤ tails n i r
   unfolding before
   before_next v hv = rw before_all at (sum_term (having n i r) (i + 1) v (omega arith))
-
-  -- a number that is past those with coordinate i up to v, and below all, is past no last coordinate
-  pub not_last : (v s : ℕ) → v ≤ i → before n i r (v + 1) ≤ s → s < tails n i r → v < i
-  not_last v s hv past below =
-      ⊎_elim (λ e. absurd (omega (arith, before_all, ap (λ (u : ℕ). before n i r (u + 1)) e))) (λ l. l) (eq-or-lt_of_le hv)
 
 -- the coordinates from i on of a number
 abbrev pub word_from : ℕ → ℕ → ℕ → ℕ → List ℕ

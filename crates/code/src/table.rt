@@ -1,5 +1,5 @@
 // Document 01's table of 1,215 counts, a block for each size n. In a block start i is a row of 2n - 1 counts, by residue.
-// Its recurrence is tested over the whole table in proofs/tail_counts.
+// Its recurrence is tested over the whole table in proofs/counts/tail_counts.
 #[derive(Clone, Copy)]
 pub struct Table {
     pub of_3: [u32; 15],
@@ -14,7 +14,7 @@ pub struct Table {
     pub of_12: [u32; 276],
 }
 
-pub const COUNTS: Table = Table {
+pub static COUNTS: Table = Table {
     of_3: [2, 1, 1, 1, 1, 1, 0, 1, 0, 1, 1, 0, 0, 0, 0],
     of_4: [
         4, 3, 3, 4, 4, 3, 3, 2, 1, 2, 2, 2, 1, 2, 1, 0, 1, 1, 0, 0, 1, 1, 0, 0, 0, 0, 0, 0,

@@ -1,82 +1,85 @@
 // Shared writes to small groups and to sampled ones.
-use comparing::tally::{Tally, none};
-use comparing::{same, sample};
+use comparing::sample;
+use comparing::tally::Tally;
 use group::Group;
-use naive::answers::plain;
-use naive_calls::machine::is_worn;
+use naive_calls::machine::{is_worn, unpushed};
 use naive_calls::shared::write_shared;
-use order::Order;
+use order::{Order, Refusal};
+use push_up::Written;
 use sharing::Ranked;
 
 // One comparison.
-fn compared(t: Tally, g: Group, target: Ranked) -> Tally {
-    same::written(t, sharing::write_shared(g, target), write_shared(g, target))
+fn compared(t: &mut Tally, g: Group, target: Ranked) {
+    t.compare(sharing::write_shared(g, target), write_shared(g, target));
+}
+
+// So many small groups of n cells, and to each the order with its ranks.
+fn every_group(t: &mut Tally, n: usize, groups: usize, target: Ranked) {
+    for k in 0..groups {
+        compared(t, sample::small(n, k), target);
+    }
+}
+
+// So many groups of n cells, and to each the targets: each of the lists of sizes with this order.
+fn every_list(t: &mut Tally, n: usize, groups: usize, lists: usize, order: Order) {
+    for ends in 0..lists {
+        every_group(t, n, groups, sample::ranked(order, n, ends));
+    }
 }
 
 // So many groups of n cells, and to each the targets: each of the lists of sizes with each order.
-pub fn every(n: usize, groups: usize, lists: usize, writes: usize) -> Tally {
-    let mut t = none();
-    if groups < 1 {
-        return t;
+pub fn every(t: &mut Tally, n: usize, groups: usize, lists: usize, orders: usize) {
+    for k in 0..orders {
+        every_list(t, n, groups, lists, sample::order_at(n, k));
     }
-    if lists < 1 {
-        return t;
-    }
-    for k in 0..writes {
-        let j = k / groups;
-        let order = sample::order_at(n, j / lists);
-        let target = sample::ranked(order, n, j % lists);
-        t = compared(t, sample::small(n, k % groups), target);
-    }
-    t
 }
 
 // 2,000 sampled targets of each size, written to a group and to a forged one.
-pub fn sampled() -> Tally {
-    let mut t = none();
+pub fn sampled(t: &mut Tally) {
     for k in 0..20000 {
         let n = 3 + k / 2000;
         let target = sample::shared(n, k);
-        t = compared(t, sample::group(n, k), target);
-        t = compared(t, sample::forged(n, k), target);
+        compared(t, sample::group(n, k), target);
+        compared(t, sample::forged(n, k), target);
     }
-    t
 }
 
-// The record that an answer has, with its mark cleared where the call was accepted.
-fn unmarked(g: Group, number: u8) -> Group {
-    let mut h = g;
-    if number == 0 {
-        h.written = false;
+// The record with its mark cleared.
+fn unmarked(g: Group) -> Group {
+    Group {
+        written: false,
+        ..g
     }
-    h
+}
+
+// The answer with the mark of its record cleared.
+fn without_mark(w: Written) -> Written {
+    Written {
+        group: unmarked(w.group),
+        ..w
+    }
 }
 
 // Three comparisons: the shared write of an order, all sizes 1; the write of that order, which is the same, mark aside; and one rank of all cells, which
 // keeps the levels, where none is above its cap.
-fn as_plain(t: Tally, g: Group, order: Order) -> Tally {
+fn as_plain(t: &mut Tally, g: Group, order: Order) {
     let ones = sample::ranked(order, g.n, 4095);
+    compared(t, g, ones);
     let b = write_shared(g, ones);
-    let t1 = same::written(t, sharing::write_shared(g, ones), b);
-    let mut a = writing::write(g, order);
-    let marked = a.group;
-    let group = unmarked(marked, b.number);
-    a.group = group;
-    let t2 = same::written(t1, a, b);
-    let levels = g.levels;
-    let caps = g.caps;
-    let number = if is_worn(levels, caps) { 8 } else { 0 };
-    let due = plain(number, unmarked(g, number));
+    t.compare(writing::write(g, order).map(without_mark), b);
+    let due = if is_worn(g.levels, g.caps) {
+        Err(Refusal::Worn)
+    } else {
+        Ok(unpushed(unmarked(g)))
+    };
     let one = sample::ranked(order, g.n, 0);
-    same::written(t2, sharing::write_shared(g, one), due)
+    t.compare(sharing::write_shared(g, one), due);
 }
 
 // 1,000 sampled groups of each size, with an order to write to each.
-pub fn plain_targets() -> Tally {
-    let mut t = none();
+pub fn plain_targets(t: &mut Tally) {
     for k in 0..10000 {
         let n = 3 + k / 1000;
-        t = as_plain(t, sample::group(n, k), sample::order(n, k));
+        as_plain(t, sample::group(n, k), sample::order(n, k));
     }
-    t
 }

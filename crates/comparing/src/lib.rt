@@ -4,6 +4,5 @@
 
 pub mod lent;
 pub mod report;
-pub mod same;
 pub mod sample;
 pub mod tally;

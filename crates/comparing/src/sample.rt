@@ -3,52 +3,54 @@ ghost use Rattle.std.specs.Prelude.{◌<◌};
 
 use group::Group;
 use naive::levels::index;
-use naive::numbers::{add, at, at16, byte, put, wide16, wide64};
+use naive::numbers::{at, byte, put};
 use naive::orders::{cells_of, placed, with_cells};
-use order::{Cell, Order};
-use plain_machine::{Call, Kind};
+use naive::words::{first, is_word, next, word_cells};
+use order::{Cell, Order, zero_order};
+use plain_machine::{Call, Kind, plain_target};
 use sharing::Ranked;
+use std::array;
 
 // The number of orders of n cells.
 const ORDERS: [usize; 13] = [
     1, 1, 2, 6, 24, 120, 720, 5040, 40320, 362880, 3628800, 39916800, 479001600,
 ];
 
+// How many numbers a u32 holds.
+const ANY: usize = 4294967296;
+
 // A number that looks random, for number k of a sequence.
 fn noise(sequence: usize, k: usize) -> usize {
-    let mut x = add(mixed(sequence), k);
-    x = mixed(x);
-    mixed(x)
+    mixed(mixed(mixed(sequence).wrapping_add(k)))
 }
 
-fn mixed(x: usize) -> usize {
-    let a = add(add(x, 40503), x << 10);
-    let b = a ^ (a >> 6);
-    let c = add(b, b << 3);
-    let d = c ^ (c >> 11);
-    let e = add(d, d << 15);
-    e ^ (e >> 32)
+fn mixed(number: usize) -> usize {
+    let mut x = number.wrapping_add(40503).wrapping_add(number << 10);
+    x ^= x >> 6;
+    x = x.wrapping_add(x << 3);
+    x ^= x >> 11;
+    x = x.wrapping_add(x << 15);
+    x ^ (x >> 32)
 }
 
 // A number below m, 0 where there is none.
 pub fn below(m: usize, sequence: usize, k: usize) -> usize {
-    if m == 0 { 0 } else { noise(sequence, k) % m }
+    noise(sequence, k).checked_rem(m).unwrap_or(0)
 }
 
-pub fn below32(m: usize, sequence: usize, k: usize) -> u32 {
-    narrow32(below(m, sequence, k))
+// The number in a narrower type, 0 where it does not fit.
+pub fn narrow<T: TryFrom<usize> + Default>(x: usize) -> T
+where
+    T::Error: Drop,
+{
+    T::try_from(x).unwrap_or_default()
 }
 
-fn narrow32(x: usize) -> u32 {
-    if x < 4294967296 { x as u32 } else { 0 }
-}
-
-fn below16(m: usize, sequence: usize, k: usize) -> u16 {
-    narrow(below(m, sequence, k))
-}
-
-pub fn narrow(x: usize) -> u16 {
-    if x < 65536 { x as u16 } else { 0 }
+// A row of n values, 0 past them.
+fn row<T: Default, F: Fn(usize) -> T>(n: usize, value: F) -> [T; 12]
+    requires { F.IsAlwaysCallable value }
+{
+    array::from_fn(|i| if i < n { value(i) } else { T::default() })
 }
 
 // The first n digits of k, the lowest first.
@@ -57,22 +59,11 @@ fn digits(n: usize, k: usize, base: usize) -> [u16; 12]
 {
     let mut row = [0u16; 12];
     let mut left = k;
-    for i in 0..12 {
-        if i < n {
-            row[i] = narrow(left % base);
-            left = left / base;
-        }
+    for digit in row.iter_mut().take(n) {
+        *digit = narrow(left % base);
+        left /= base;
     }
     row
-}
-
-// The same digits as used pulses.
-fn used_digits(row: [u16; 12]) -> [u32; 12] {
-    let mut used = [0u32; 12];
-    for i in 0..12 {
-        used[i] = wide16(row[i]);
-    }
-    used
 }
 
 // A small group of n cells: of 3 cells every one with levels to 2 and caps to 3, marked or not, when i is 0 to 3,455, and then with used pulses, up to the
@@ -84,21 +75,15 @@ pub fn small(n: usize, i: usize) -> Group {
         n,
         levels: digits(n, k, 3),
         caps: digits(n, k / 27, most + 1),
-        used: used_digits(digits(n, k / 3456, most + 1)),
-        endurance: most as u32,
+        used: digits(n, k / 3456, most + 1).map(u32::from),
+        endurance: narrow(most),
         written: k / 1728 % 2 == 1,
     }
 }
 
 // Coordinates of n cells, coordinate i at index i.
 fn coordinates(n: usize, s: usize) -> [u8; 12] {
-    let mut values = [0u8; 12];
-    for i in 0..12 {
-        if i < n {
-            values[i] = byte(below(i + 1, s, i));
-        }
-    }
-    values
+    row(n, |i| byte(below(i.wrapping_add(1), s, i)))
 }
 
 // An order of n cells.
@@ -108,226 +93,168 @@ pub fn order(n: usize, s: usize) -> Order {
 
 // Order number k of n cells in the list of all coordinates.
 pub fn order_at(n: usize, k: usize) -> Order {
-    let mut l = naive::words::first(n);
-    for _ in 0..k {
-        l = naive::words::next(l);
-    }
-    with_cells(naive::words::word_cells(l), n)
+    let listed = (0..k).fold(first(n), |l, _| l.and_then(next));
+    listed.map_or(zero_order(), |l| with_cells(word_cells(l), n))
 }
 
 // A word of n cells: the first of many sampled lists whose weighted sum is divisible by 2n - 1.
 pub fn word(n: usize, s: usize) -> Order {
-    for k in 0..1000 {
-        let values = coordinates(n, add(s, k));
-        if naive::words::is_word(values, n) {
-            return with_cells(placed(values, n), n);
-        }
-    }
-    order(n, s)
+    let values = (s..s.saturating_add(1000))
+        .map(|k| coordinates(n, k))
+        .find(|values| is_word(*values, n))
+        .unwrap_or(coordinates(n, s));
+    with_cells(placed(values, n), n)
 }
 
 // An order of n cells with two neighbours exchanged.
 pub fn exchanged(o: Order, n: usize, s: usize) -> Order {
-    let k = add(below(std::num::wrapping_sub_usize(n, 1), s, 40), 1);
+    let k = below(n.wrapping_sub(1), s, 40).wrapping_add(1);
     with_cells(naive::words::exchanged(cells_of(o), k), n)
 }
 
 // A size that no group has.
 pub fn size(k: usize) -> usize {
-    if k < 3 {
-        return k;
+    match k {
+        0..=2 => k,
+        3..=15 => 10 + k,
+        16 => 259,
+        17 => 65539,
+        18 => 4294967299,
+        _ => usize::MAX,
     }
-    if k < 16 {
-        return 10 + k;
-    }
-    if k == 16 {
-        return 259;
-    }
-    if k == 17 {
-        return 65539;
-    }
-    if k == 18 {
-        return 4294967299;
-    }
-    18446744073709551615
 }
 
 // The order with one of its numbers set to another one: mostly a cell doubled and one missing, or a number that is no cell.
 fn damaged(o: Order, s: usize) -> Order {
     let mut p = o;
-    let at = below(12, s, 50);
-    if at < 12 {
-        p.cells[at] = Cell(byte(below(15, s, 51)));
-    }
+    put(&mut p.cells, below(12, s, 50), Cell(byte(below(15, s, 51))));
     if below(4, s, 52) == 0 {
         p.len = below(15, s, 53);
     }
     p
 }
 
-// A row of levels or caps below a bound, 0 past n.
-fn row(n: usize, bound: usize, s: usize) -> [u16; 12] {
-    let mut values = [0u16; 12];
-    for i in 0..12 {
-        if i < n {
-            values[i] = below16(bound, s, i);
-        }
-    }
-    values
+// The levels or caps of n cells, below a bound.
+fn levels(n: usize, bound: usize, s: usize) -> [u16; 12] {
+    row(n, |i| narrow(below(bound, s, i)))
 }
 
-// The caps of n new cells.
-fn full(n: usize) -> [u16; 12] {
-    let mut caps = [0u16; 12];
-    for i in 0..12 {
-        if i < n {
-            caps[i] = 4095;
-        }
-    }
-    caps
-}
-
-// Used pulses of n cells: one of the numbers up to the most, of which there are so many. 0 past n.
+// The used pulses of n cells: of each one of the numbers up to the most, of which there are so many.
 fn used_to(n: usize, most: u32, many: usize, s: usize) -> [u32; 12] {
-    let mut used = [0u32; 12];
-    for i in 0..12 {
-        if i < n {
-            used[i] = std::num::wrapping_sub_u32(most, below32(many, s, i));
-        }
-    }
-    used
+    row(n, |i| most.wrapping_sub(narrow(below(many, s, i))))
 }
 
 // A group that any order can be written to, and another after it, and another: each cell has 64 pulses left or more, and rises by no more than 34, to 34,
 // and then to 45 and to 56.
 pub fn low_group(n: usize, s: usize) -> Group {
-    let levels = row(n, 24, add(s, 1));
-    let caps = full(n);
-    let written = below(8, s, 62) != 0;
     let most = below(999937, s, 63);
-    let used = used_to(n, narrow32(most), add(most, 1), add(s, 4));
     Group {
         n,
-        levels,
-        caps,
-        used,
-        endurance: narrow32(add(most, 64)),
-        written,
+        levels: levels(n, 24, s.wrapping_add(1)),
+        caps: row(n, |_| 4095),
+        used: used_to(n, narrow(most), most.wrapping_add(1), s.wrapping_add(4)),
+        endurance: narrow(most.wrapping_add(64)),
+        written: below(8, s, 62) != 0,
     }
 }
 
 // The group with no pulses left to any of its cells.
 pub fn spent(g: Group) -> Group {
-    let mut h = g;
-    let used = used_to(g.n, g.endurance, 1, 0);
-    h.used = used;
-    h
+    Group {
+        used: used_to(g.n, g.endurance, 1, 0),
+        ..g
+    }
 }
 
 // A group that no order can be written to: the caps are 0 or 1. No pulses are left either, which is looked at after the caps.
 pub fn worn_group(n: usize, s: usize) -> Group {
-    let mut g = spent(low_group(n, s));
-    let caps = row(n, 2, s);
-    g.caps = caps;
-    g
+    Group {
+        caps: levels(n, 2, s),
+        ..spent(low_group(n, s))
+    }
 }
 
 // A group with low levels or any, with full caps or any, and with many pulses left or few: below 48.
 pub fn group(n: usize, s: usize) -> Group {
     let mut g = low_group(n, s);
     if below(2, s, 60) == 0 {
-        let levels = row(n, 4096, add(s, 2));
-        g.levels = levels;
+        g.levels = levels(n, 4096, s.wrapping_add(2));
     }
     if below(4, s, 61) == 0 {
-        let caps = row(n, 4096, add(s, 3));
-        g.caps = caps;
+        g.caps = levels(n, 4096, s.wrapping_add(3));
     }
     if below(4, s, 64) == 0 {
-        let used = used_to(n, g.endurance, 48, add(s, 5));
-        g.used = used;
+        g.used = used_to(n, g.endurance, 48, s.wrapping_add(5));
     }
     g
 }
 
 // A level or cap from 4,094 to 4,097, or in one of four any number.
 fn edge(s: usize) -> u16 {
-    if below(4, s, 72) == 0 {
-        return below16(65536, s, 73);
-    }
-    narrow(4094 + below(4, s, 76) % 4)
+    narrow(match below(4, s, 72) {
+        0 => below(65536, s, 73),
+        _ => 4094 + below(4, s, 76) % 4,
+    })
 }
 
 // An endurance just outside its range, a lower one, or any number.
 fn other_endurance(endurance: u32, s: usize) -> u32 {
-    let way = below(4, s, 77);
-    if way == 0 {
-        return 0;
+    match below(4, s, 77) {
+        0 => 0,
+        1 => 1000001,
+        2 => narrow(below(endurance as usize + 1, s, 78)),
+        _ => narrow(below(ANY, s, 78)),
     }
-    if way == 1 {
-        return 1000001;
-    }
-    if way == 2 {
-        return below32(add(wide64(endurance), 1), s, 78);
-    }
-    below32(4294967296, s, 78)
 }
 
 // Used pulses one below the endurance, at it or one above, or in one of four any number.
 fn used_edge(endurance: u32, s: usize) -> u32 {
-    if below(4, s, 72) == 0 {
-        return below32(4294967296, s, 73);
+    match below(4, s, 72) {
+        0 => narrow(below(ANY, s, 73)),
+        _ => endurance
+            .wrapping_add(1)
+            .wrapping_sub(narrow(below(3, s, 76))),
     }
-    std::num::wrapping_sub_u32(std::num::wrapping_add_u32(endurance, 1), below32(3, s, 76))
 }
 
 // A sampled group with another level, cap, number of used pulses, endurance or size: mostly no group.
 pub fn forged(n: usize, s: usize) -> Group {
     let mut h = group(n, s);
-    let at = below(12, s, 70);
-    let way = below(6, s, 71);
-    if at < 12 {
-        if way == 0 {
-            h.levels[at] = edge(s);
-        } else if way == 1 {
-            h.caps[at] = edge(s);
-        } else if way == 2 {
-            h.n = std::num::wrapping_sub_usize(add(n, below(4, s, 74)), 2);
-        } else if way == 3 {
-            h.n = size(below(20, s, 75));
-        } else if way == 4 {
-            h.used[at] = used_edge(h.endurance, s);
-        } else {
-            h.endurance = other_endurance(h.endurance, s);
-        }
+    let endurance = h.endurance;
+    let place = below(12, s, 70);
+    match below(6, s, 71) {
+        0 => put(&mut h.levels, place, edge(s)),
+        1 => put(&mut h.caps, place, edge(s)),
+        2 => h.n = n.wrapping_add(below(4, s, 74)).wrapping_sub(2),
+        3 => h.n = size(below(20, s, 75)),
+        4 => put(&mut h.used, place, used_edge(endurance, s)),
+        _ => h.endurance = other_endurance(endurance, s),
     }
     h
 }
 
 // An order to write to n cells, damaged in one of 16.
 pub fn target(n: usize, s: usize) -> Order {
-    let o = order(n, add(s, 3));
-    if below(16, s, 80) == 0 {
-        return damaged(o, s);
+    let o = order(n, s.wrapping_add(3));
+    match below(16, s, 80) {
+        0 => damaged(o, s),
+        _ => o,
     }
-    o
 }
 
 // A target of n cells with ranks: one ends after place i + 1 where bit i of a number is set, and the last one after place n.
 pub fn ranked(cells: Order, n: usize, ends: usize) -> Ranked {
-    let mut r = plain_machine::plain_target(cells);
+    let mut r = plain_target(cells);
     let mut bits = ends;
-    for i in 0..12 {
-        if i < n {
-            let k = r.count;
-            if k < 12 {
-                r.sizes[k] = std::num::wrapping_add_u8(r.sizes[k], 1);
-            }
-            if bits % 2 == 1 || i + 1 == n {
-                r.count = add(k, 1);
-            }
-            bits = bits / 2;
+    for i in 0..n.min(12) {
+        let k = r.count;
+        if k < 12 {
+            r.sizes[k] = r.sizes[k].wrapping_add(1);
         }
+        if bits % 2 == 1 || i + 1 == n {
+            r.count = k.wrapping_add(1);
+        }
+        bits /= 2;
     }
     r
 }
@@ -336,54 +263,40 @@ pub fn ranked(cells: Order, n: usize, ends: usize) -> Ranked {
 // place that is not 0; one less, which there is 255; or 0. Another count; one that no list has; no ranks; or two ranks more, of which a byte that adds the
 // sizes sees nothing.
 fn missized(r: Ranked, s: usize) -> Ranked {
+    let place = below(r.count.wrapping_add(1), s, 101);
+    let held = at(&r.sizes, place);
     let mut t = r;
-    let sizes = r.sizes;
-    let way = below(8, s, 100);
-    if way == 4 {
-        t.count = below(13, s, 102);
-        return t;
+    match below(8, s, 100) {
+        0..=1 => put(&mut t.sizes, place, held.wrapping_add(1)),
+        2 => put(&mut t.sizes, place, held.wrapping_sub(1)),
+        3 => put(&mut t.sizes, place, 0),
+        4 => t.count = below(13, s, 102),
+        5 => t.count = size(below(20, s, 103)),
+        6 => t = plain_target(r.cells),
+        _ => {
+            put(&mut t.sizes, r.count, 255);
+            put(&mut t.sizes, r.count.wrapping_add(1), 1);
+            t.count = r.count.wrapping_add(2);
+        }
     }
-    if way == 5 {
-        t.count = size(below(20, s, 103));
-        return t;
-    }
-    if way == 6 {
-        let cells = r.cells;
-        return plain_machine::plain_target(cells);
-    }
-    if way == 7 {
-        let more = put(put(sizes, r.count, 255), add(r.count, 1), 1);
-        t.sizes = more;
-        t.count = add(r.count, 2);
-        return t;
-    }
-    let place = below(add(r.count, 1), s, 101);
-    let mut held: u8 = 0;
-    if way < 2 {
-        held = std::num::wrapping_add_u8(at(sizes, place), 1);
-    } else if way == 2 {
-        held = std::num::wrapping_sub_u8(at(sizes, place), 1);
-    }
-    let other = put(sizes, place, held);
-    t.sizes = other;
     t
 }
 
 // A target with ranks to write to n cells: the order is damaged in one of 16, and the sizes in one of 8.
 pub fn shared(n: usize, s: usize) -> Ranked {
     let r = ranked(target(n, s), n, below(4096, s, 96));
-    if below(8, s, 97) == 0 {
-        return missized(r, s);
+    match below(8, s, 97) {
+        0 => missized(r, s),
+        _ => r,
     }
-    r
 }
 
 // A cell of a group, or the number below or above, or 255.
 pub fn cell(g: Group, s: usize) -> Cell {
-    if below(16, s, 94) == 0 {
-        return Cell(255);
+    match below(16, s, 94) {
+        0 => Cell(255),
+        _ => Cell(byte(below(g.n.wrapping_add(2), s, 82))),
     }
-    Cell(byte(below(add(g.n, 2), s, 82)))
 }
 
 // A call of the machine on a group: mostly one that can be accepted.
@@ -395,80 +308,62 @@ pub fn call(g: Group, s: usize) -> Call {
 }
 
 fn kind(g: Group, s: usize) -> Kind {
-    let shares = below(32, s, 98);
-    if shares == 0 {
-        return Kind::WriteSharedInto(below(13, s, 95));
+    match below(32, s, 98) {
+        0 => Kind::WriteSharedInto(below(13, s, 95)),
+        1..=2 => Kind::WriteShared,
+        _ => plain_kind(g, s),
     }
-    if shares < 3 {
-        return Kind::WriteShared;
-    }
-    let which = below(9, s, 81);
-    if which == 0 {
-        return Kind::Write;
-    }
-    if which == 1 {
-        return Kind::WriteInto(below(13, s, 95));
-    }
-    if which < 4 {
-        return Kind::Scrub;
-    }
-    if which == 4 {
-        return Kind::Read;
-    }
-    if which == 5 {
-        return Kind::Store(symbol(g.n, s));
-    }
+}
+
+// The kind of a call other than a shared write.
+fn plain_kind(g: Group, s: usize) -> Kind {
     let c = cell(g, s);
-    if which < 8 {
-        return Kind::Leak(c, drop(s));
+    match below(9, s, 81) {
+        0 => Kind::Write,
+        1 => Kind::WriteInto(below(13, s, 95)),
+        2..=3 => Kind::Scrub,
+        4 => Kind::Read,
+        5 => Kind::Store(symbol(g.n, s)),
+        6..=7 => Kind::Leak(c, drop(s)),
+        _ => match below(4, s, 83) {
+            0 => Kind::Erase,
+            _ => Kind::Wear(c, cap(g, c, s)),
+        },
     }
-    if below(4, s, 83) == 0 {
-        return Kind::Erase;
-    }
-    Kind::Wear(c, cap(g, c, s))
 }
 
 // n! / (2n - 1), cut: n cells have so many words, or one more.
 pub fn words(n: usize) -> usize {
-    if n < 1 {
-        return 0;
+    match n {
+        1..=12 => ORDERS[n] / (2 * n - 1),
+        _ => 0,
     }
-    if n < 13 {
-        return ORDERS[n] / (2 * n - 1);
-    }
-    0
 }
 
 // A symbol of n cells, or one just past the last, or any number.
 pub fn symbol(n: usize, s: usize) -> u32 {
-    if below(16, s, 84) == 0 {
-        return below32(4294967296, s, 85);
-    }
-    below32(add(words(n), 3), s, 86)
+    narrow(match below(16, s, 84) {
+        0 => below(ANY, s, 85),
+        _ => below(words(n).wrapping_add(3), s, 86),
+    })
 }
 
 // How much a leak takes: little, or up to any number.
 pub fn drop(s: usize) -> u32 {
-    if below(8, s, 87) == 0 {
-        return below32(4294967296, s, 88);
-    }
-    below32(4, s, 89)
+    narrow(match below(8, s, 87) {
+        0 => below(ANY, s, 88),
+        _ => below(4, s, 89),
+    })
 }
 
 // A cap near the cell's level, near its cap, or any number.
 pub fn cap(g: Group, cell: Cell, s: usize) -> u32 {
-    let levels = g.levels;
-    let caps = g.caps;
-    let at = index(cell.0);
-    let way = below(8, s, 90);
-    if way == 0 {
-        return below32(4294967296, s, 91);
+    let i = index(cell.0);
+    match below(8, s, 90) {
+        0 => narrow(below(ANY, s, 91)),
+        1..=2 => u32::from(at(&g.levels, i)).wrapping_add(narrow(below(24, s, 92))),
+        _ => u32::from(at(&g.caps, i))
+            .wrapping_add(1)
+            .wrapping_sub(narrow(below(6, s, 93))),
     }
-    if way < 3 {
-        return std::num::wrapping_add_u32(at16(levels, at), below32(24, s, 92));
-    }
-    std::num::wrapping_sub_u32(
-        std::num::wrapping_add_u32(at16(caps, at), 1),
-        below32(6, s, 93),
-    )
 }

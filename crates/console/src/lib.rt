@@ -10,46 +10,55 @@ ghost use Rattle.runs.specs.Text.{room};
 ghost use Rattle.runs.specs.Pieces.{progress_after, lines_from, text_from, goes_on, ends};
 
 use runs::{PieceAnswer, Progress};
+use std::fmt;
 use std::io::{Read, Write};
 
 // The most pieces that are read, of 4,096 bytes each: 65,536 bytes.
 const PIECES: u32 = 16;
 
-// What came of a run: its whole text was written; some of it could not be; or it is the text of an input whose end could not be read.
-#[derive(Clone, Copy)]
-pub enum Poured {
-    Whole,
+// What can go wrong with a run: some of its text could not be written; or it is the text of an input whose end could not be read.
+#[derive(Clone, Copy, PartialEq, Eq)]
+pub enum PourError {
     NotWritten,
     NotRead,
 }
 
+impl fmt::Display for PourError {
+    fn fmt<W: fmt::Write>(&self, f: &mut fmt::Formatter<W>) -> fmt::Result {
+        f.write_str(match self {
+            PourError::NotWritten => "not all of the text could be written",
+            PourError::NotRead => "the input could not be read to its end",
+        })
+    }
+}
+
 // Reads call records until 65,536 bytes, the end of the input or a read that fails, and writes their text, piece by piece, so that the two
 // buffers take some 70 KB of stack.
-pub fn pour<R: Read, W: Write>(from: &mut R, to: &mut W) -> Poured {
+pub fn pour<R: Read, W: Write>(from: &mut R, to: &mut W) -> Result<(), PourError> {
     let mut input = piece_buffer();
     let mut text = text_buffer();
     let mut p = runs::begin();
     let mut size = read_full(from, &mut input);
-    let mut pieces = 1;
-    while size == 4096 && pieces < PIECES {
-        let done = take_piece(p, &input[..size], &mut text);
-        if to.write_all(&text[..done.end]).is_err() {
-            return Poured::NotWritten;
+    for pieces in 1..PIECES {
+        if size < 4096 {
+            break;
         }
-        let next = done.progress;
-        p = next;
+        let done = take_piece(p, &input[..size], &mut text);
+        write_text(to, &text[..done.end])?;
+        p = done.progress;
         size = read_full(from, &mut input);
-        pieces += 1;
     }
     let end = take_last(p, &input[..size], &mut text);
-    if to.write_all(&text[..end]).is_err() {
-        return Poured::NotWritten;
-    }
+    write_text(to, &text[..end])?;
     if size == 4096 || ended(from) {
-        Poured::Whole
+        Ok(())
     } else {
-        Poured::NotRead
+        Err(PourError::NotRead)
     }
+}
+
+fn write_text<W: Write>(to: &mut W, text: &[u8]) -> Result<(), PourError> {
+    to.write_all(text).map_err(|_| PourError::NotWritten)
 }
 
 // The lines of a piece that the run takes.
@@ -79,7 +88,8 @@ fn ended<R: Read>(from: &mut R) -> bool {
     matches!(from.read(&mut next), Ok(0))
 }
 
-// Reads until buf is full, the input ends or a read fails, and answers how many bytes stand at the start of buf.
+// Reads until buf is full, the input ends or a read fails, and answers how many bytes stand at the start of buf. No `read_exact`: of an input that
+// ends early it does not say how many bytes came.
 pub fn read_full<R: Read>(from: &mut R, buf: &mut [u8]) -> usize
     ensures { result ≤ length buf.new }
 {

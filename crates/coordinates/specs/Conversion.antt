@@ -5,16 +5,15 @@
 --   order_by_coordinates x     the order that has the coordinates
 --   coordinate_checks x       the checks of coordinates that are handed in: n is one more than their number
 --   no_coordinates            the zeros beside a refusal
---   told_coordinates a        what an answer says: its number, and the coordinates
+--   told_coordinates a        what an answer says: its number, and the coordinates, or zeros
 --   coordinates_of_order, order_of_coordinates    the answers to `coordinates_of` and `from_coordinates`
-use Rattle.std.specs.Prelude.{ℕ, ◌+◌, ◌-◌, Bool, List, [], ◌∷◌, get_or, replicate}
+use Rattle.std.specs.Prelude.{ℕ, ◌+◌, ◌-◌, Bool, List, [], ◌∷◌, get_or, replicate, Result}
 use Rattle.order.specs.declared.Order.{Order}
 use Rattle.order.specs.declared.Refusal.{Refusal}
 use Rattle.order.specs.declared.Refusal.TheVariants.{Size, Coordinate}
-use Rattle.order.specs.Refusals.{outcome_number, Told, answer, is_size}
+use Rattle.order.specs.Refusals.{Told, told, answer, is_size}
 use Rattle.order.specs.Order.{listed, order_checks, order_record, no_order}
 use Rattle.coordinates.specs.declared.Coordinates.{Coordinates}
-use Rattle.coordinates.specs.declared.CoordinatesAnswer.{CoordinatesAnswer}
 use Rattle.coordinates.specs.Coordinates.{coordinates_to, order_from, in_range}
 
 unfoldable pub coordinates_of : Order → Coordinates
@@ -32,8 +31,8 @@ coordinate_checks x = (is_size (x.len + 1), Size) ∷ (in_range x.len 1 x.values
 abbrev pub no_coordinates : Coordinates
 no_coordinates = record { len = 0; values = replicate 11 0 }
 
-abbrev pub told_coordinates : CoordinatesAnswer → Told Coordinates
-told_coordinates a = record { number = outcome_number a.outcome; value = a.coordinates }
+abbrev pub told_coordinates : Result Coordinates Refusal → Told Coordinates
+told_coordinates a = told no_coordinates a
 
 unfoldable pub coordinates_of_order : Order → Told Coordinates
 coordinates_of_order o = answer (order_checks o) (coordinates_of o) no_coordinates

@@ -5,15 +5,15 @@
 --   met_to m k xs           these for i from 1 to m
 --   sweep_of o k            a sweep of k places: the coordinates of the cells met, 0 for the others, and their weighted sum, not reduced by 2n - 1
 --   no_sweep                the zeros beside a refusal
---   told_sweep a            what an answer says: its number, and what the sweep holds
+--   told_sweep a            what an answer says: its number, and what the sweep holds, or zeros
 --   sweep_of_order o k       the answer to `sweep_of`
-use Rattle.std.specs.Prelude.{ℕ, suc, ◌-◌, Bool, cond, List, ltb, length}
+use Rattle.std.specs.Prelude.{ℕ, suc, ◌-◌, Bool, cond, List, ltb, length, Result}
 use Rattle.order.specs.declared.Order.{Order}
-use Rattle.order.specs.Refusals.{outcome_number, Told, answer}
+use Rattle.order.specs.declared.Refusal.{Refusal}
+use Rattle.order.specs.Refusals.{Told, told, answer}
 use Rattle.order.specs.Cells.{tabulate, place_of}
 use Rattle.order.specs.Order.{listed, order_checks}
 use Rattle.coordinates.specs.declared.Sweep.{Sweep}
-use Rattle.coordinates.specs.declared.SweepAnswer.{SweepAnswer}
 use Rattle.coordinates.specs.Coordinates.{coordinate_of, weight}
 use Rattle.coordinates.specs.Conversion.{no_coordinates}
 
@@ -34,8 +34,8 @@ sweep_of o k =
 abbrev pub no_sweep : Sweep
 no_sweep = record { coordinates = no_coordinates; sum = 0 }
 
-abbrev pub told_sweep : SweepAnswer → Told Sweep
-told_sweep a = record { number = outcome_number a.outcome; value = a.sweep }
+abbrev pub told_sweep : Result Sweep Refusal → Told Sweep
+told_sweep a = told no_sweep a
 
 unfoldable pub sweep_of_order : Order → ℕ → Told Sweep
 sweep_of_order o k = answer (order_checks o) (sweep_of o k) no_sweep

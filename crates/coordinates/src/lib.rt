@@ -4,73 +4,40 @@
 // place adds to a sweep, and that a sweep of all places holds the coordinates of the order, and their weighted sum (proofs/Sweeping).
 #![tactic(auto)]
 
-ghost use Rattle.std.specs.Prelude.{◌≡◌, true, cond, ◌-◌, ◌*◌, ◌%◌, ◌^◌, ◌≤◌, ◌<◌, ltb, set};
+ghost use Rattle.std.specs.Prelude.{◌≡◌, cond, ◌-◌, ◌*◌, ◌%◌, ◌^◌, ◌≤◌, ltb, set};
 ghost use Rattle.std.specs.Int.Count.{ones};
-ghost use Rattle.order.specs.Cells.{is_order};
-ghost use Rattle.order.specs.Order.{listed};
 ghost use Rattle.coordinates.specs.Conversion.{no_coordinates, told_coordinates, coordinates_of_order};
 ghost use Rattle.coordinates.specs.Sweep.{sweep_of, told_sweep, sweep_of_order};
 
-use order::{Order, Outcome};
+use order::{Checked, Order, Refusal};
 
-// Coordinate i at index i - 1. Indices from `len` on hold 0.
-#[derive(Clone, Copy)]
+// Coordinate i at index i - 1. Indices from `len` on hold 0. A length beside fixed places: see `order::Order`.
+#[derive(Clone, Copy, PartialEq, Eq)]
 pub struct Coordinates {
     pub len: usize,
     pub values: [u8; 11],
 }
 
-#[derive(Clone, Copy)]
-pub struct CoordinatesAnswer {
-    pub outcome: Outcome,
-    pub coordinates: Coordinates,
-}
-
 // What a sweep over an order holds: the coordinates of the cells met, 0 for the others, and their weighted sum.
-#[derive(Clone, Copy)]
+#[derive(Clone, Copy, PartialEq, Eq)]
 pub struct Sweep {
     pub coordinates: Coordinates,
     pub sum: u32,
 }
 
-#[derive(Clone, Copy)]
-pub struct SweepAnswer {
-    pub outcome: Outcome,
-    pub sweep: Sweep,
-}
-
 // The coordinates of an order: those that a sweep of all its places holds.
-pub fn coordinates_of(o: Order) -> CoordinatesAnswer
+pub fn coordinates_of(o: Order) -> Result<Coordinates, Refusal>
     ensures { told_coordinates result ≡ coordinates_of_order o }
 {
-    let answer = sweep_of(o, o.len);
-    let outcome = answer.outcome;
-    let sweep = answer.sweep;
-    let coordinates = sweep.coordinates;
-    CoordinatesAnswer {
-        outcome,
-        coordinates,
-    }
+    Ok(sweep_of(o, o.len)?.coordinates)
 }
 
 // A sweep over an order, from its last place up, of so many places; of all where it has fewer.
-pub fn sweep_of(o: Order, places: usize) -> SweepAnswer
+#[tactic(auto, unfolding(order::specs::Refusals::number_of, order::specs::Refusals::answer, crate::specs::Sweep::sweep_of_order))]
+pub fn sweep_of(o: Order, places: usize) -> Result<Sweep, Refusal>
     ensures { told_sweep result ≡ sweep_of_order o places }
 {
-    let outcome = order::check_order(o);
-    let Outcome::Done = outcome else {
-        return SweepAnswer {
-            outcome,
-            sweep: Sweep {
-                coordinates: zero_coordinates(),
-                sum: 0,
-            },
-        };
-    };
-    SweepAnswer {
-        outcome: Outcome::Done,
-        sweep: sweep_places(o, places),
-    }
+    Ok(sweep_places(Checked::new(o)?, places))
 }
 
 // The all-zero record of coordinates: none.
@@ -84,34 +51,24 @@ pub fn zero_coordinates() -> Coordinates
 }
 
 // The sweep, with the set of cells met: each cell's coordinate is put among the values, and its term added to the sum.
-fn sweep_places(o: Order, places: usize) -> Sweep
-    requires { (1 ≤ o.len) × (o.len ≤ 12) × (is_order o.len (listed o) ≡ true) }
-    ensures { result ≡ sweep_of o places }
+fn sweep_places(checked: Checked, places: usize) -> Sweep
+    ensures { result ≡ sweep_of checked.order places }
 {
+    let o = checked.order;
     let n = o.len;
-    let stop = places_left_out(n, places);
     let mut met: u32 = 0;
     let mut values = [0u8; 11];
     let mut sum: u32 = 0;
-    let mut i = n;
-    while stop < i {
-        i -= 1;
+    for i in (n.saturating_sub(places)..n).rev() {
         let c = o.cells[i].number();
         sum += put_coordinate(&mut values, met, c);
-        met = met | bit_of(c);
+        met |= bit_of(c);
     }
     let len = n - 1;
     Sweep {
         coordinates: Coordinates { len, values },
         sum,
     }
-}
-
-// How many of n places a sweep of so many leaves out.
-fn places_left_out(n: usize, places: usize) -> usize
-    ensures { result ≡ n - places }
-{
-    if places < n { n - places } else { 0 }
 }
 
 // Coordinate c - 1, which is that of cell c, put among the values: the number of cells met whose bits are below that of c. The answer is its term of the
@@ -127,14 +84,14 @@ fn put_coordinate(values: &mut [u8; 11], met: u32, c: usize) -> u32
     let bit = bit_of(c);
     let v = count_of(met % bit);
     values[c - 2] = v;
-    ((c - 1) as u32) * (v as u32)
+    (c - 1) as u32 * u32::from(v)
 }
 
 // How many cells are in a set: its ones.
 fn count_of(set: u32) -> u8
     ensures { result ≡ ones set }
 {
-    u32::count_ones(set) as u8
+    set.count_ones() as u8
 }
 
 // The bit of cell c in a set of cells.

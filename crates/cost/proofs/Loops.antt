@@ -1,10 +1,10 @@
 -- The two loops over the cells: what each has found in the cells before place i.
 -- Assumes nothing.
-use Prim.Native.Nat.{ℕ, suc, ◌+◌, ◌-◌, ◌≤◌, ◌<◌}
+use Prim.Native.Nat.{ℕ, suc, ◌+◌, ◌-◌, ◌≤◌, ◌<◌, max}
 use native.Mathlib.Numerals.{add-one}
 use native.Mathlib.Omega.{arith}
 use mathlib.Core.Path.{◌≡◌, refl, sym, ◌∙◌}
-use mathlib.Core.Bool.{cond}
+use mathlib.Core.Bool.{cond, false}
 use mathlib.Core.Logic.{inl, inr, ⊎_elim}
 use mathlib.Core.List.{List}
 use lib.Dec.{ltb}
@@ -14,9 +14,13 @@ use borrow.Author.Tests.{lt-ltb, le-ltb}
 use Rattle.ranks.specs.declared.Ranks.{Ranks}
 use Rattle.order.specs.Cells.{tabulate}
 use Rattle.ranks.specs.Ranks.{rank_numbers}
+use Rattle.ranks.proofs.RankNumbers.{rank_at_lem}
 use Rattle.order.proofs.Cells.{lt_cases}
 use Rattle.order.proofs.Tabulate.{tabulate_ext, tabulate_set}
 use Rattle.cost.specs.Steps.{Low, displacements_by_rank, LargestGrowth}
+
+pub low_at : {r : Ranks} → Low r → (k : ℕ) → (get_or r.ranks k (record { 0 = 0 })).0 ≤ 12
+low_at {r} l k = rw (rank_at_lem r k) (l.low k)
 
 -- ---- the displacements
 
@@ -68,33 +72,23 @@ pub record Grown (from to : Ranks) (most i : ℕ) : Type 0 where
 pub grown_none : (from to : Ranks) → Grown from to 0 0
 grown_none from to = record { left = omega arith; small = omega arith; largest = record { over = λ k l. omega arith; some = inl refl } }
 
-module _ {from to : Ranks} {most i : ℕ} (s : Grown from to most i) (l : i < from.len)
-    {before after : ℕ} (b : before ≡ get_or (rank_numbers from) i 0) (a : after ≡ get_or (rank_numbers to) i 0) where
-  at_here : (most' : ℕ) → after ≤ before + most' → (k : ℕ) → i ≤ k → k < i + 1 → get_or (rank_numbers to) k 0 ≤ get_or (rank_numbers from) k 0 + most'
-  at_here most' h k g t = let e : k ≡ i = omega arith in rw e (omega arith)
-
-  -- what was found still stands where the cell at i does not rise by more
-  pub grown_kept : after ≤ most + before → Grown from to most (i + 1)
-  grown_kept h = record {
-    left = omega arith;
-    small = s.small;
-    largest = record {
-      over = λ k g. ⊎_elim (λ t. s.largest.over k t.0) (λ t. at_here most (omega arith) k t.0 g) (lt_cases k i);
-      some = ⊎_elim (λ z. inl z) (λ r. inr (record { index = r.index; inside = omega (arith, r.inside); by = r.by })) s.largest.some;
-    };
-  }
-
-  -- and where it does, its rise is the largest
-  pub grown_more : most + before < after → Low to → Grown from to (after - before) (i + 1)
-  grown_more h low = record {
-    left = omega arith;
-    small = omega (arith, low.low i);
-    largest = record {
-      over = λ k g.
-          ⊎_elim (λ t. omega (arith, s.largest.over k t.0)) (λ t. at_here (after - before) (omega arith) k t.0 g) (lt_cases k i);
-      some = inr (record { index = i; inside = omega arith; by = omega arith });
-    };
-  }
+-- with the rise of the cell at i, the larger is the largest
+pub grown_more : {from to : Ranks} {most i before after next : ℕ} → Grown from to most i → i < from.len → Low to → before ≡ get_or (rank_numbers from) i 0
+    → after ≡ get_or (rank_numbers to) i 0 → next ≡ max most (after - before) → Grown from to next (i + 1)
+grown_more {from} {to} {most} {i} {before} {after} {next} s l low b a m = record {
+  left = omega arith;
+  small = omega (arith, s.small, low.low i);
+  largest = record {
+    over = λ k g.
+        ⊎_elim (λ t. omega (arith, s.largest.over k t.0)) (λ (t : (i ≤ k) × (ltb k i ≡ false)). let here : k ≡ i = omega arith in rw here (omega arith)) (lt_cases k i);
+    some =
+        ⊎_elim (λ t. inr (record { index = i; inside = omega arith; by = omega arith }))
+        (λ t.
+        let kept : next ≡ most = omega arith in
+        rw kept (⊎_elim (λ z. inl z) (λ r. inr (record { index = r.index; inside = omega (arith, r.inside); by = r.by })) s.largest.some))
+        (lt_cases (most + before) after);
+  };
+}
 
 pub grown_all : {from to : Ranks} {most i : ℕ} → Grown from to most i → from.len ≤ i → LargestGrowth (rank_numbers from) (rank_numbers to) from.len most
 grown_all {from} {to} {most} {i} s l = let e : i ≡ from.len = omega (arith, s.left) in rw e at s.largest

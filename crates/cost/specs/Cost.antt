@@ -5,18 +5,16 @@
 --   larger_of x ys          the largest of x and the listed numbers
 --   largest xs             the largest of a list of numbers; 0 of none
 --   cost n u v             the largest of the displacements
---   told_displacements, told_cost        what an answer says: its number, and the displacements or the cost
+--   told_displacements, told_cost        what an answer says: its number, and the displacements or the cost, or zeros
 --   displacements_of, cost_of            the answers to `displacements` and `cost`
-use Rattle.std.specs.Prelude.{ℕ, suc, cond, List, [], ◌∷◌, replicate, ℤ, pos}
+use Rattle.std.specs.Prelude.{ℕ, suc, cond, List, [], ◌∷◌, replicate, Result, Ok, Err, ℤ, pos}
 use Rattle.std.proofs.Math.IntN.{sub_ℕ}
 use Rattle.std.specs.Int.Signed.{le_z}
 use Rattle.order.specs.declared.Order.{Order}
-use Rattle.order.specs.Refusals.{refusal_number, outcome_number, Told, answer}
+use Rattle.order.specs.declared.Refusal.{Refusal}
+use Rattle.order.specs.Refusals.{refusal_number, Told, told, answer}
 use Rattle.order.specs.Cells.{tabulate, place_of}
 use Rattle.order.specs.Order.{listed, pair_checks}
-use Rattle.cost.specs.declared.CostAnswer.{CostAnswer}
-use Rattle.cost.specs.declared.CostAnswer.TheVariants.{Refused, Cost}
-use Rattle.cost.specs.declared.DisplacementsAnswer.{DisplacementsAnswer}
 
 unfoldable pub displacement : List ℕ → List ℕ → ℕ → ℤ
 displacement u v c = sub_ℕ (place_of v c) (place_of u c)
@@ -35,12 +33,12 @@ largest (x ∷ xs) = larger_of x xs
 unfoldable pub cost : ℕ → List ℕ → List ℕ → ℤ
 cost n u v = largest (displacements n u v)
 
-abbrev pub told_displacements : DisplacementsAnswer → Told (List ℤ)
-told_displacements a = record { number = outcome_number a.outcome; value = a.displacements }
+abbrev pub told_displacements : Result (List ℤ) Refusal → Told (List ℤ)
+told_displacements a = told (replicate 12 (pos 0)) a
 
-abbrev pub told_cost : CostAnswer → Told ℤ
-told_cost (Refused refusal) = record { number = refusal_number refusal; value = pos 0 }
-told_cost (Cost c) = record { number = 0; value = pos c }
+abbrev pub told_cost : Result ℕ Refusal → Told ℤ
+told_cost (Ok c) = record { number = 0; value = pos c }
+told_cost (Err refusal) = record { number = refusal_number refusal; value = pos 0 }
 
 -- by cell number, in twelve places: a cell that is not listed has rank 0 in both
 unfoldable pub displacements_of : Order → Order → Told (List ℤ)

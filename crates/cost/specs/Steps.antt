@@ -1,22 +1,22 @@
 -- What the private functions of `cost` promise, in terms of ranks. Nothing here is needed to read a public contract.
 --
---   told_pair, ranks_of_pair        the ranks of two orders beside the outcome of their checks
+--   told_pair, ranks_of_pair        the ranks of two orders that pass the checks of a pair
 --   Low r                        each rank is at most 12
 --   displacements_by_rank from to  the displacements of the cells 1 to 12, by their ranks
 --   Grows from to n most         one of the first n cells has a rank that grows by `most`
 --   LargestGrowth from to n most none of the first n grows by more than `most`, and one grows by that, or it is 0
-use Rattle.std.specs.Prelude.{ℕ, ◌+◌, ◌≤◌, ◌<◌, ◌≡◌, ◌⊎◌, List, get_or, ℤ}
+use Rattle.std.specs.Prelude.{ℕ, ◌+◌, ◌≤◌, ◌<◌, ◌≡◌, ◌⊎◌, List, get_or, Result, ℤ}
 use Rattle.std.proofs.Math.IntN.{sub_ℕ}
 use Rattle.order.specs.declared.Order.{Order}
+use Rattle.order.specs.declared.Refusal.{Refusal}
 use Rattle.ranks.specs.declared.Ranks.{Ranks}
-use Rattle.order.specs.Refusals.{outcome_number, Told, answer}
+use Rattle.order.specs.Refusals.{Told, told, answer}
 use Rattle.order.specs.Cells.{tabulate}
 use Rattle.order.specs.Order.{pair_checks}
 use Rattle.ranks.specs.Ranks.{ranks_of, rank_numbers, no_ranks}
-use Rattle.cost.specs.declared.RanksPair.{RanksPair}
 
-abbrev pub told_pair : RanksPair → Told (Ranks × Ranks)
-told_pair a = record { number = outcome_number a.outcome; value = (a.from, a.to) }
+abbrev pub told_pair : Result (Ranks × Ranks) Refusal → Told (Ranks × Ranks)
+told_pair a = told (no_ranks, no_ranks) a
 
 unfoldable pub ranks_of_pair : Order → Order → Told (Ranks × Ranks)
 ranks_of_pair u v = answer (pair_checks u v) (ranks_of u, ranks_of v) (no_ranks, no_ranks)

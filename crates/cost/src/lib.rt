@@ -5,114 +5,49 @@
 
 ghost use Rattle.std.specs.Prelude.{◌≡◌, ◌≤◌};
 ghost use Rattle.std.proofs.Math.IntN.{sub_ℕ};
-ghost use Rattle.ranks.specs.Ranks.{rank_numbers, no_ranks};
+ghost use Rattle.ranks.specs.Ranks.{rank_numbers};
 ghost use Rattle.cost.specs.Cost.{told_displacements, told_cost, displacements_of, cost_of};
 ghost use Rattle.cost.specs.Steps.{told_pair, ranks_of_pair, Low, displacements_by_rank, LargestGrowth};
 
-use order::{Order, Outcome, Rank, Refusal};
+use order::{Order, Rank, Refusal};
 use ranks::Ranks;
 
-#[derive(Clone, Copy)]
-pub enum CostAnswer {
-    Refused(Refusal),
-    Cost(u8),
-}
-
-// The displacement of cell c at index c - 1, then zeros.
-#[derive(Clone, Copy)]
-pub struct DisplacementsAnswer {
-    pub outcome: Outcome,
-    pub displacements: [i8; 12],
-}
-
-// The ranks of the cells in two orders, beside the outcome of their checks.
-#[derive(Clone, Copy)]
-struct RanksPair {
-    outcome: Outcome,
-    from: Ranks,
-    to: Ranks,
-}
-
-// The displacements of the cells from u to v.
-pub fn displacements(u: Order, v: Order) -> DisplacementsAnswer
+// The displacements of the cells from u to v: that of cell c at index c - 1, then zeros.
+#[tactic(auto, unfolding(order::specs::Refusals::number_of, order::specs::Refusals::answer, crate::specs::Steps::ranks_of_pair, crate::specs::Cost::displacements_of))]
+pub fn displacements(u: Order, v: Order) -> Result<[i8; 12], Refusal>
     ensures { told_displacements result ≡ displacements_of u v }
 {
-    let pair = ranks_of_pair(u, v);
-    let outcome = pair.outcome;
-    let Outcome::Done = outcome else {
-        return DisplacementsAnswer {
-            outcome,
-            displacements: [0; 12],
-        };
-    };
-    DisplacementsAnswer {
-        outcome: Outcome::Done,
-        displacements: displacements_by_rank(pair.from, pair.to),
-    }
+    let (from, to) = ranks_of_pair(u, v)?;
+    Ok(displacements_by_rank(from, to))
 }
 
 // The largest of the displacements from u to v.
-pub fn cost(u: Order, v: Order) -> CostAnswer
+#[tactic(auto, unfolding(order::specs::Refusals::number_of, order::specs::Refusals::answer, crate::specs::Steps::ranks_of_pair, crate::specs::Cost::cost_of))]
+pub fn cost(u: Order, v: Order) -> Result<u8, Refusal>
     ensures { told_cost result ≡ cost_of u v }
 {
-    let pair = ranks_of_pair(u, v);
-    let outcome = pair.outcome;
-    if let Outcome::Refused(refusal) = outcome {
-        return CostAnswer::Refused(refusal);
-    }
-    CostAnswer::Cost(largest_growth(pair.from, pair.to))
+    let (from, to) = ranks_of_pair(u, v)?;
+    Ok(largest_growth(from, to))
 }
 
 // The ranks in u and in v. Orders that pass the checks of a pair are not refused their ranks.
-fn ranks_of_pair(u: Order, v: Order) -> RanksPair
+#[tactic(auto, unfolding(order::specs::Refusals::number_of, order::specs::Refusals::answer, crate::specs::Steps::ranks_of_pair))]
+fn ranks_of_pair(u: Order, v: Order) -> Result<(Ranks, Ranks), Refusal>
     ensures { told_pair result ≡ ranks_of_pair u v }
 {
-    let outcome = order::check_pair(u, v);
-    let Outcome::Done = outcome else {
-        return no_pair(outcome);
-    };
-    let from = ranks::ranks_of(u);
-    let from_outcome = from.outcome;
-    let Outcome::Done = from_outcome else {
-        return no_pair(from_outcome);
-    };
-    let to = ranks::ranks_of(v);
-    let to_outcome = to.outcome;
-    let Outcome::Done = to_outcome else {
-        return no_pair(to_outcome);
-    };
-    let from_ranks = from.ranks;
-    let to_ranks = to.ranks;
-    RanksPair {
-        outcome: Outcome::Done,
-        from: from_ranks,
-        to: to_ranks,
-    }
+    order::check_pair(u, v)?;
+    Ok((ranks::ranks_of(u)?, ranks::ranks_of(v)?))
 }
 
-// An outcome, with zeros for the ranks.
-fn no_pair(outcome: Outcome) -> RanksPair
-    ensures { result ≡ record { outcome = outcome; from = no_ranks; to = no_ranks } }
-{
-    let none = ranks::zero_ranks();
-    RanksPair {
-        outcome,
-        from: none,
-        to: none,
-    }
-}
-
-// The displacement of each cell, by its ranks.
+// The displacement of each cell, by its ranks. Here and in `largest_growth` by places, as the definitions (specs/Steps) have it: over `zip` the invariant would
+// speak of the iterator.
 fn displacements_by_rank(from: Ranks, to: Ranks) -> [i8; 12]
     requires { Low from × Low to }
     ensures { result ≡ displacements_by_rank from to }
 {
     let mut found = [0i8; 12];
-    let mut at = 0;
-    while at < 12 {
-        let d = displacement(from.ranks[at], to.ranks[at]);
-        found[at] = d;
-        at += 1;
+    for i in 0..12 {
+        found[i] = displacement(from.ranks[i], to.ranks[i]);
     }
     found
 }
@@ -132,16 +67,9 @@ fn largest_growth(from: Ranks, to: Ranks) -> u8
     requires { (from.len ≤ 12) × Low from × Low to }
     ensures { LargestGrowth (rank_numbers from) (rank_numbers to) from.len result }
 {
-    let n = from.len;
     let mut most: u8 = 0;
-    let mut i = 0;
-    while i < n {
-        let before = from.ranks[i].0;
-        let after = to.ranks[i].0;
-        if most + before < after {
-            most = after - before;
-        }
-        i += 1;
+    for i in 0..from.len {
+        most = most.max(to.ranks[i].0.saturating_sub(from.ranks[i].0));
     }
     most
 }

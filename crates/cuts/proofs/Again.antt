@@ -160,7 +160,7 @@ are_retries g h c w e d s (cut ∷ cuts) a =
 
 pub list_repaired : (g : Group) → IsGroup g → (c : Call) → writes c.kind ≡ true → (apply_of g c).number ≡ 0 → (d : Call) → IsWriteOf g.n (target g c) (marks c.kind) d
     → (cuts : List Cut) → AreCuts g c d cuts → Repaired apply_of g c (retries d cuts)
-list_repaired g h c w e d s cuts a = cuts_repaired g h c w e (retries d cuts) (are_retries g h c w e d s cuts a)
+list_repaired g h c w e d s cuts a = search (arith, cuts_repaired, are_retries)
 
 -- the push program of a write or a shared write into a lent list stands in that list
 pub lent_program : (g : Group) (a : Ranked) (list : List Push)

@@ -58,7 +58,7 @@ module _ (v : ℕ) where
   half_above : {ps : List Push} {ls ms : List ℕ} → Runs ps ls ms → Between ps v → AtMost ls (played (half_push ps v) ls)
   unfolding played
   half_above rest b = at_most_refl _
-  half_above {ls = ls} (next {p = p} i s l r) b = put_above p.cell.0 v (at_most_refl ls) (omega (arith, s, b.0))
+  half_above {ls = ls} (next {p = p} i s l r) b = grind (arith, put_above, at_most_refl)
 
   half_below : {ps : List Push} {ls ms : List ℕ} → Runs ps ls ms → Between ps v → AtMost (played (half_push ps v) ls) ms
   unfolding played
@@ -112,7 +112,7 @@ sum_tallied (u ∷ us) e (more h p) = omega (arith, h, sum_tallied us (omega (ar
 
 pub cut_used : (g : Group) {ps : List Push} {ms : List ℕ} → Runs ps g.levels ms → (cut : Cut) → IsCut ps cut → length g.used ≡ length g.levels
     → sum (used_at g ps cut) ≡ sum g.used + pulses_at ps cut
-cut_used g r cut c e = omega (arith, sum_tallied g.used e (cut_above r cut c), cut_grown r cut c)
+cut_used g r cut c e = grind (arith, sum_tallied, cut_above, cut_grown)
 
 -- ---- the ends are cuts: nothing pushed yet, and all pushed
 
@@ -130,7 +130,7 @@ last ps v = record { done = length ps; level = v }
 pub first_cut : {ps : List Push} {ls ms : List ℕ} → Runs ps ls ms → IsCut ps (first ps) × (levels_at ps (first ps) ls ≡ ls) × (pulses_at ps (first ps) ≡ 0)
 unfolding levels_at pulses_at played pulses_in
 first_cut rest = ((zero-le, tt), refl, refl)
-first_cut {ls = ls} (next {p = p} i s l r) = ((zero-le, (omega arith, omega (arith, l))), rw s (put_same ls p.cell.0), omega arith)
+first_cut {ls = ls} (next {p = p} i s l r) = grind (arith, put_same)
 
 pub last_cut : {ps : List Push} {ls ms : List ℕ} (v : ℕ) → Runs ps ls ms
     → IsCut ps (last ps v) × (levels_at ps (last ps v) ls ≡ ms) × (pulses_at ps (last ps v) ≡ pulses_in ps)
@@ -146,7 +146,7 @@ module _ (gap : ℕ) (rs : List (List ℕ)) (ls : List ℕ) (a : Apart (length l
   there = levels_at (pushes gap rs ls) cut ls
 
   pub cut_raised : raise gap rs (levels_at (pushes gap rs ls) cut ls) ≡ raise gap rs ls
-  cut_raised = let r = program_runs gap rs ls a in raise_between gap rs a (cut_above r cut c) (cut_below r cut c)
+  cut_raised = grind (arith, program_runs, raise_between, cut_above, cut_below)
 
   pub cut_pulses : pulses_at (pushes gap rs ls) cut + pulses_in (pushes gap rs (levels_at (pushes gap rs ls) cut ls)) ≡ pulses_in (pushes gap rs ls)
   unfolding there

@@ -2,7 +2,7 @@
 -- and the pulses add up.
 -- Assumes nothing.
 use Prim.Native.Nat.{ℕ, ◌+◌}
-use mathlib.Core.Path.{◌≡◌, refl, sym, ap, ap₂, subst, ◌∙◌}
+use mathlib.Core.Path.{◌≡◌, refl, sym, ap, ◌∙◌}
 use mathlib.Core.Bool.{true}
 use mathlib.Core.List.{List, [], ◌∷◌}
 use native.Mathlib.Omega.{arith}
@@ -10,15 +10,14 @@ use lib.ListN.{length}
 use Rattle.order.specs.Refusals.{number_of, Told}
 use Rattle.group.specs.declared.Group.{Group}
 use Rattle.group.specs.Levels.{AtMost, sum, tallied}
-use Rattle.group.specs.Record.{is_row, IsGroup, changed, programmed}
+use Rattle.group.specs.Record.{is_row, IsGroup, programmed}
 use Rattle.group.proofs.Levels.{at_most_refl, at_most_trans, at_most_length, true_at_most}
 use Rattle.group.proofs.LevelRows.{all_below, row_below}
 use Rattle.group.proofs.Tallies.{length_tallied, tallied_mono, tallied_twice, row_tallied}
 use Rattle.group.proofs.Checks.{rules_held, checked_caps}
 use Rattle.group.proofs.Groups.{group_with}
-use Rattle.push_up.specs.PushUp.{pushes, pulses_in}
+use Rattle.push_up.specs.PushUp.{pushes}
 use Rattle.push_up.specs.WriteAnswer.{Program, raised, fits, lasts, push_checks, pushed}
-use Rattle.push_up.specs.PushProgram.{counted}
 use Rattle.push_up.proofs.Minimal.{Apart}
 use Rattle.push_up.proofs.Programs.{program_runs, counted_pushes}
 use Rattle.push_up.proofs.Writes.{push_holds, target_apart}
@@ -45,10 +44,10 @@ module _ (g : Group) (h : IsGroup g) (c : Call) (w : writes c.kind ≡ true) (e 
   ranks = target g c
 
   apart : Apart (length g.levels) ranks
-  apart = target_apart g ranks h (target_of g c.target c.kind w (done_checks g c w done).0)
+  apart = grind (arith, target_apart, target_of, done_checks, done)
 
   program : program_of apply_of g c ≡ pushes 1 ranks g.levels
-  program = ap (λ (p : Program). counted p.count p.pushes) (apply_pushed g c w e) ∙ counted_pushes (marks c.kind) g ranks
+  program = grind (arith, apply_pushed, counted_pushes)
 
   -- the ends are cuts: nothing pushed yet, and all pushed
   pub call_first : let ps = program_of apply_of g c in IsCut ps (first ps) × (levels_at ps (first ps) g.levels ≡ g.levels) × (pulses_at ps (first ps) ≡ 0)
@@ -109,7 +108,7 @@ module _ (g : Group) (h : IsGroup g) (c : Call) (w : writes c.kind ≡ true) (e 
     cut_taken = taken_with g h there taken_group.used there_row there_twelve used_row used_twelve
 
     pub taken_group_lem : IsGroup taken_group
-    taken_group_lem = group_with g h there g.caps taken_group.used true there_row there_twelve (at_most_refl g.caps) used_row used_twelve
+    taken_group_lem = search (arith, group_with, there_row, there_twelve, at_most_refl, used_row, used_twelve)
 
     same_levels : raised taken_group (target g c) ≡ raised g (target g c)
     unfolding raised
@@ -129,28 +128,18 @@ module _ (g : Group) (h : IsGroup g) (c : Call) (w : writes c.kind ≡ true) (e 
       same_target = a.same taken_group refl
 
       pub again_accepted : (apply_of taken_group d).number ≡ 0
-      again_accepted =
-          apply_number taken_group d
-          ∙ done_pushes taken_group d a.raises (a.passes taken_group refl taken_group_lem)
-          (subst (λ (t : List (List ℕ)). number_of (push_checks taken_group t) ≡ 0) (sym same_target) has_room)
+      again_accepted = grind (arith, apply_number, done_pushes, taken_group_lem, same_target, has_room)
 
       again_pushed : program_part (apply_of taken_group d).value ≡ pushed (marks c.kind) taken_group (target g c)
-      again_pushed = apply_pushed taken_group d a.raises again_accepted ∙ rw (a.mark, same_target)
+      again_pushed = grind (arith, apply_pushed, again_accepted, same_target)
 
       again_same : (apply_of taken_group d).value.group ≡ (apply_of g c).value.group
       unfolding pushed
-      again_same =
-          ap (λ (p : Program). p.group) again_pushed
-          ∙ ap₂ (λ (ls us : List ℕ). changed g ls g.caps us (marks c.kind)) same_levels same_used
-          ∙ sym (ap (λ (p : Program). p.group) (apply_pushed g c w e))
+      again_same = grind (arith, again_pushed, same_levels, same_used, apply_pushed)
 
       again_pulses : pulses_at (program_of apply_of g c) cut + (apply_of taken_group d).value.pulses ≡ (apply_of g c).value.pulses
       unfolding pushed
-      again_pulses =
-          let after = ap (λ (p : Program). p.pulses) again_pushed in
-          let uncut = ap (λ (p : Program). p.pulses) (apply_pushed g c w e) in
-          let parts : pulses_at (program_of apply_of g c) cut + pulses_in (pushes 1 ranks there) ≡ pulses_in (pushes 1 ranks g.levels) = rw program (cut_pulses 1 ranks g.levels apart cut is_cut) in
-          omega (arith, after, uncut, parts)
+      again_pulses = grind (arith, again_pushed, apply_pushed, program, cut_pulses, apart, is_cut)
 
 -- ---- any number of cuts
 

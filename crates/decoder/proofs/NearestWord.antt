@@ -1,6 +1,6 @@
 -- What `nearest` answers, case by case, and what it says of the codeword found.
 -- Assumes nothing.
-use Prim.Native.Nat.{ℕ, ◌≤◌, ◌<◌}
+use Prim.Native.Nat.{ℕ, ◌%◌, ◌≤◌, ◌<◌}
 use native.Mathlib.Nat.{eq-zero-or-pos}
 use native.Mathlib.Omega.{arith}
 use mathlib.Core.Path.{◌≡◌, sym, ap, ◌∙◌}
@@ -10,20 +10,25 @@ use mathlib.Core.List.{List, [], ◌∷◌}
 use lib.Dec.{ltb}
 use lib.ListN.{length}
 use borrow.Author.Tests.{lt-ltb, le-ltb, ltb-true, eq-eqb, eqb-true}
+use Rattle.std.specs.Prelude.{Ok, Err}
+use Rattle.std.specs.Option.{ok_or}
 use Rattle.order.specs.declared.Order.{Order}
 use Rattle.order.specs.declared.Refusal.{Refusal}
 use Rattle.order.specs.declared.Refusal.TheVariants.{Lost}
-use Rattle.order.specs.Refusals.{refusal_number, outcome_number, number_of, Told, answer}
-use Rattle.order.specs.Order.{listed, order_checks, no_order}
+use Rattle.order.specs.Refusals.{refusal_number, number_of, Told, answer}
+use Rattle.order.specs.Order.{listed, order_checks}
 use Rattle.order.proofs.Refusals.{later_decide, refused_first, all_held, check_holds, check_fails, check_held, all_hold, told_done, told_refused}
 use Rattle.order.proofs.Records.{passed, passed_listed, record_back}
 use Rattle.coordinates.specs.declared.Coordinates.{Coordinates}
 use Rattle.coordinates.specs.Conversion.{coordinates_of}
-use Rattle.decoder.specs.declared.NearestAnswer.{NearestAnswer}
-use Rattle.decoder.specs.Decoding.{is_codeword, correction}
-use Rattle.decoder.specs.Nearest.{decode_checks, exchanged_order, Found, nothing_found, found_at, told_nearest, nearest_of}
-use Rattle.decoder.specs.Steps.{syndrome_of, Misread, Exchangeable}
-use Rattle.decoder.proofs.ZeroSyndrome.{code_syndrome}
+use Rattle.coordinates.specs.declared.Sweep.{Sweep}
+use Rattle.coordinates.specs.Sweep.{told_sweep, sweep_of_order}
+use Rattle.decoder.specs.declared.Found.{Found}
+use Rattle.decoder.specs.Decoding.{modulus, is_codeword, correction}
+use Rattle.decoder.specs.Nearest.{decode_checks, exchanged_order, nothing_found, found_at, told_nearest, nearest_of}
+use Rattle.decoder.specs.Steps.{syndrome_of, Misread, Exchangeable, below_only}
+use Rattle.decoder.proofs.ZeroSyndrome.{code_syndrome, sweep_passed, same_syndrome}
+use Rattle.decoder.proofs.Looking.{place_some}
 use Rattle.decoder.proofs.Decoding.{corrected, reads_clean}
 use Rattle.decoder.proofs.Stores.{same_length, same_list_lem}
 
@@ -87,6 +92,21 @@ read_place {o} {s} {k} m e l =
         let c = (reads_clean o.len (listed o) (passed_listed o m.passed) (omega (arith, (passed o m.passed).0))).0 z in
         omega (arith, m.syndrome, m.wrong, eqb-true (syndrome_of o.len (listed o)) 0 (sym (code_syndrome o.len (listed o)) ∙ c))
 
+-- ---- what `nearest` knows of a sweep of all places, and of the syndrome z that it gives
+
+module _ (o : Order) (s : Sweep) (e : told_sweep (Ok s) ≡ sweep_of_order o o.len) {z : ℕ} (y : z ≡ s.sum % modulus o.len) where
+  is_syndrome : z ≡ syndrome_of o.len (listed o)
+  is_syndrome = y ∙ same_syndrome o o.len s e (omega arith)
+
+  pub swept_clean : z ≡ 0 → correction o.len (listed o) ≡ 0
+  swept_clean h = read_clean o (sweep_passed o o.len s e) (omega (arith, is_syndrome))
+
+  pub swept_misread : 0 < z → Misread o z
+  swept_misread h = record { passed = sweep_passed o o.len s e; syndrome = is_syndrome; wrong = h }
+
+  pub swept_place : 0 < z → {k : ℕ} → Ok k ≡ ok_or (below_only o.len (correction o.len (listed o))) Lost → Exchangeable o k
+  swept_place h f = let (c, l) = place_some _ _ f in read_place (swept_misread h) (sym c) l
+
 -- ---- an order that is decoded
 
 -- the codeword that the order reads as, in its record
@@ -107,29 +127,27 @@ module _ (o : Order) (d : number_of (decode_checks o) ≡ 0) where
 
 -- ---- the answer, taken apart
 
-module _ (o : Order) (a : NearestAnswer) (e : told_nearest a ≡ nearest_of o) where
-  pub nearest_number : outcome_number a.outcome ≡ number_of (decode_checks o)
+module _ (o : Order) (a : Found) (e : told_nearest (Ok a) ≡ nearest_of o) where
+  pub nearest_passed : number_of (decode_checks o) ≡ 0
   unfolding nearest_of answer
-  nearest_number = ap (λ (t : Told Found). t.number) e
+  nearest_passed = sym (ap (λ (t : Told Found). t.number) e)
 
-  -- zeros beside a refusal
-  pub nearest_zeros : (r : Refusal) → number_of (decode_checks o) ≡ refusal_number r → a.word ≡ no_order
+  found : a ≡ found_at o (correction o.len (listed o))
   unfolding nearest_of
-  nearest_zeros r d = ap (λ (t : Told Found). t.value.word) (e ∙ sym (told_refused _ _ _ r d))
+  found = ap (λ (t : Told Found). t.value) (e ∙ sym (told_done _ _ _ nearest_passed))
 
-  module _ (d : number_of (decode_checks o) ≡ 0) where
-    found : ◌≡◌ {A = Found} (record { word = a.word; place = a.place; coordinates = a.coordinates }) (found_at o (correction o.len (listed o)))
-    unfolding nearest_of
-    found = ap (λ (t : Told Found). t.value) (e ∙ sym (told_done _ _ _ d))
+  pub nearest_word : a.word ≡ word_near o
+  unfolding found_at
+  nearest_word = ap (λ (f : Found). f.word) found
 
-    pub nearest_word : a.word ≡ word_near o
-    unfolding found_at
-    nearest_word = ap (λ (f : Found). f.word) found
+  pub nearest_place : a.place ≡ correction o.len (listed o)
+  unfolding found_at
+  nearest_place = ap (λ (f : Found). f.place) found
 
-    pub nearest_place : a.place ≡ correction o.len (listed o)
-    unfolding found_at
-    nearest_place = ap (λ (f : Found). f.place) found
+  pub nearest_coordinates : a.coordinates ≡ coordinates_of (word_near o)
+  unfolding found_at
+  nearest_coordinates = ap (λ (f : Found). f.coordinates) found
 
-    pub nearest_coordinates : a.coordinates ≡ coordinates_of (word_near o)
-    unfolding found_at
-    nearest_coordinates = ap (λ (f : Found). f.coordinates) found
+pub nearest_not : (o : Order) (r : Refusal) → told_nearest (Err r) ≡ nearest_of o → number_of (decode_checks o) ≡ refusal_number r
+unfolding nearest_of answer
+nearest_not o r e = sym (ap (λ (t : Told Found). t.number) e)

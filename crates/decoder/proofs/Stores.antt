@@ -1,4 +1,4 @@
--- A neighbour exchange in the record of an order, by two stores.
+-- A neighbour exchange in the record of an order, by a swap.
 -- Assumes nothing.
 use Prim.Native.Nat.{ℕ, zero, suc, ◌-◌, ◌≤◌, ◌<◌}
 use native.Mathlib.Omega.{arith}
@@ -7,6 +7,8 @@ use mathlib.Core.Bool.{true}
 use mathlib.Core.List.{List, [], ◌∷◌}
 use lib.ListN.{length, get_or, set, length-set}
 use lib.Seq.{get_or-set_same, get_or-set_other}
+use Rattle.std.specs.Prelude.{swap}
+use Rattle.std.proofs.lemmas.List.{get_or_default}
 use Rattle.order.specs.declared.Cell.{Cell}
 use Rattle.order.specs.declared.Order.{Order}
 use Rattle.order.specs.Cells.{is_order, tabulate}
@@ -46,12 +48,13 @@ swapped cs xs e j h s =
     rw (e, at (suc j) (omega arith), at j (omega arith), place_set xs j y (omega arith), place_set (set xs j y) (suc j) (get_or xs j 0) (omega (arith, length-set xs j y)))
     (ap places (sym (exchange_set j xs h)))
 
--- the cells at places k - 1 and k, from 0, each stored in the other's place
+swap_stores : {A : Type 0} (xs : List A) (i j : ℕ) (d : A) → i < length xs → j < length xs → swap xs i j ≡ set (set xs i (get_or xs j d)) j (get_or xs i d)
+swap_stores [] i j d h l = absurd (omega arith)
+swap_stores (x ∷ xs) i j d h l = rw (get_or_default (x ∷ xs) i x d h, get_or_default (x ∷ xs) j x d l) refl
+
+-- the cells at places k - 1 and k, from 0, swapped
 abbrev pub stored : Order → ℕ → Order
-stored o k = record {
-  len = o.len;
-  cells = set (set o.cells (k - 1) (get_or o.cells k (cell 0))) k (get_or o.cells (k - 1) (cell 0));
-}
+stored o k = record { len = o.len; cells = swap o.cells (k - 1) k }
 
 pub stored_exchange : (o : Order) (k : ℕ) → Exchangeable o k → length o.cells ≡ 12 → stored o k ≡ exchanged_order o k
 unfolding exchanged_order order_record places
@@ -60,7 +63,7 @@ stored_exchange o (suc j) e w =
     let back : o.cells ≡ places (listed o) = ap (λ (r : Order). r.cells) (sym (record_back o e.passed w)) in
     let h : suc j < length (listed o) = omega (arith, (passed_order o e.passed).size, e.last) in
     let d : suc j - 1 ≡ j = omega arith in
-    let swap : (stored o (suc j)).cells ≡ places (exchange (suc j) (listed o)) = rw d (swapped o.cells (listed o) back j h (omega (arith, (passed_order o e.passed).size, (passed o e.passed).1))) in
+    let swap : (stored o (suc j)).cells ≡ places (exchange (suc j) (listed o)) = rw (d, swap_stores o.cells j (suc j) (cell 0) (omega (arith, w, e.last, (passed o e.passed).1)) (omega (arith, w, e.last, (passed o e.passed).1))) (swapped o.cells (listed o) back j h (omega (arith, (passed_order o e.passed).size, (passed o e.passed).1))) in
     λ i. record { len = sym (recorded_length o.len _ (exchange_order o.len (listed o) (passed_listed o e.passed) (suc j))) i; cells = swap i }
 
 -- ---- the order that is made

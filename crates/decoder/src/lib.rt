@@ -5,46 +5,34 @@
 #![tactic(auto)]
 
 ghost use Rattle.std.specs.Prelude.{◌≡◌, ◌+◌, ◌%◌, ◌≤◌, ◌<◌};
-ghost use Rattle.order.specs.Refusals.{refusal_number};
 ghost use Rattle.order.specs.Order.{listed};
 ghost use Rattle.coordinates.specs.Conversion.{coordinates_of};
 ghost use Rattle.decoder.specs.Decoding.{modulus, correction};
-ghost use Rattle.decoder.specs.Nearest.{told_test, is_codeword_of, exchanged_order, nothing_found, told_nearest, nearest_of};
-ghost use Rattle.decoder.specs.Steps.{Misread, corrects_by, Exchangeable};
+ghost use Rattle.decoder.specs.Nearest.{told_test, is_codeword_of, exchanged_order, told_nearest, nearest_of};
+ghost use Rattle.decoder.specs.Steps.{Misread, below_only, corrects_by, Exchangeable};
 
 use coordinates::Coordinates;
-use order::{Order, Outcome, Refusal};
-
-#[derive(Clone, Copy)]
-pub enum TestAnswer {
-    Refused(Refusal),
-    Tested(bool),
-}
+use order::{Order, Refusal};
 
 // The codeword within distance 1 of an order, and its coordinates. The cells of ranks `place` and `place` + 1 were exchanged; 0 where the order is
-// that codeword itself.
-#[derive(Clone, Copy)]
-pub struct NearestAnswer {
-    pub outcome: Outcome,
+// that codeword itself: 0, and no option, since `nearest_of` states the place as a number.
+#[derive(Clone, Copy, PartialEq, Eq)]
+pub struct Found {
     pub word: Order,
     pub place: u8,
     pub coordinates: Coordinates,
 }
 
 // Whether an order is a codeword.
-pub fn is_codeword(o: Order) -> TestAnswer
+pub fn is_codeword(o: Order) -> Result<bool, Refusal>
     ensures { told_test result ≡ is_codeword_of o }
 {
-    let answer = coordinates::sweep_of(o, o.len);
-    let outcome = answer.outcome;
-    if let Outcome::Refused(refusal) = outcome {
-        return TestAnswer::Refused(refusal);
-    }
-    let sweep = answer.sweep;
-    TestAnswer::Tested(syndrome(o.len, sweep.sum) == 0)
+    let sum = coordinates::sweep_of(o, o.len)?.sum;
+    Ok(syndrome(o.len, sum) == 0)
 }
 
-// The syndrome: what the weighted sum of the coordinates of n cells leaves on division by 2n - 1.
+// The syndrome: what the weighted sum of the coordinates of n cells leaves on division by 2n - 1. n is the length of an order that the sweep has checked, as in
+// `corrects`: an `order::Checked` in place of these facts would check it once more.
 fn syndrome(n: usize, sum: u32) -> usize
     requires { (1 ≤ n) × (n ≤ 12) }
     ensures { result ≡ sum % modulus n }
@@ -54,67 +42,42 @@ fn syndrome(n: usize, sum: u32) -> usize
 }
 
 // The codeword within distance 1 of an order.
-pub fn nearest(o: Order) -> NearestAnswer
+pub fn nearest(o: Order) -> Result<Found, Refusal>
     ensures { told_nearest result ≡ nearest_of o }
 {
-    let read = coordinates::sweep_of(o, o.len);
-    let outcome = read.outcome;
-    if let Outcome::Refused(refusal) = outcome {
-        return no_word(refusal);
-    }
-    let sweep = read.sweep;
-    let x = sweep.coordinates;
+    let sweep = coordinates::sweep_of(o, o.len)?;
+    let coordinates = sweep.coordinates;
     let s = syndrome(o.len, sweep.sum);
     if s == 0 {
-        return NearestAnswer {
-            outcome: Outcome::Done,
+        return Ok(Found {
             word: o,
             place: 0,
-            coordinates: x,
-        };
+            coordinates,
+        });
     }
-    let k = exchange_for(o, s);
-    if o.len <= k {
-        return no_word(Refusal::Lost);
-    }
+    let k = exchange_for(o, s).ok_or(Refusal::Lost)?;
     let place = k as u8;
     let word = exchanged(o, k);
-    NearestAnswer {
-        outcome: Outcome::Done,
+    Ok(Found {
         word,
         place,
-        coordinates: corrected_coordinates(x, o, k),
-    }
+        coordinates: corrected_coordinates(coordinates, o, k),
+    })
 }
 
-// A refusal: there is no codeword.
-fn no_word(refusal: Refusal) -> NearestAnswer
-    ensures { told_nearest result ≡ record { number = refusal_number refusal; value = nothing_found } }
-{
-    NearestAnswer {
-        outcome: Outcome::Refused(refusal),
-        word: order::zero_order(),
-        place: 0,
-        coordinates: coordinates::zero_coordinates(),
-    }
-}
-
-// The first place at which a neighbour exchange makes an order whose syndrome is s, not 0, a codeword; n where there is none.
-fn exchange_for(o: Order, s: usize) -> usize
+// The first place at which a neighbour exchange makes an order whose syndrome is s, not 0, a codeword.
+fn exchange_for(o: Order, s: usize) -> Option<usize>
     requires { Misread o s }
-    ensures { result ≡ correction o.len (listed o) }
+    ensures { result ≡ below_only o.len (correction o.len (listed o)) }
 {
-    let n = o.len;
-    let mut k: usize = 1;
-    while k < n {
+    for k in 1..o.len {
         let above = o.cells[k - 1].number();
         let below = o.cells[k].number();
-        if corrects(n, s, above, below) {
-            return k;
+        if corrects(o.len, s, above, below) {
+            return Some(k);
         }
-        k += 1;
     }
-    n
+    None
 }
 
 // Whether the exchange of a cell and the one just below it makes the syndrome 0: it changes the weighted sum by the greater of the two
@@ -136,10 +99,7 @@ fn exchanged(o: Order, k: usize) -> Order
     ensures { result ≡ exchanged_order o k }
 {
     let mut next = o;
-    let above = o.cells[k - 1];
-    let below = o.cells[k];
-    next.cells[k - 1] = below;
-    next.cells[k] = above;
+    next.cells.swap(k - 1, k);
     next
 }
 
@@ -153,9 +113,9 @@ fn corrected_coordinates(x: Coordinates, o: Order, k: usize) -> Coordinates
     let below = o.cells[k].number();
     let mut next = x;
     if above < below {
-        next.values[below - 2] = x.values[below - 2] + 1;
+        next.values[below - 2] += 1;
     } else {
-        next.values[above - 2] = x.values[above - 2] - 1;
+        next.values[above - 2] -= 1;
     }
     next
 }

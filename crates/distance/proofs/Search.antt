@@ -3,14 +3,28 @@
 use Prim.Native.Nat.{ℕ, suc, ◌+◌, ◌≤◌, ◌<◌}
 use native.Mathlib.Omega.{arith}
 use native.Mathlib.Numerals.{add-one}
-use mathlib.Core.Path.{◌≡◌, refl, sym, ◌∙◌}
+use mathlib.Core.Path.{◌≡◌, refl, sym, ap, ◌∙◌}
 use mathlib.Core.Bool.{Bool, cond}
 use mathlib.Core.List.{List}
 use lib.Dec.{eqb}
 use lib.ListN.{length, get_or, take, drop, drop_of_length-le}
 use lib.Seq.{drop-cons, get_or-take, length-take-le}
 use borrow.Author.Tests.{eq-eqb, ne_eqb}
+use Rattle.std.proofs.lemmas.List.{length-map}
+use Rattle.order.specs.declared.Cell.{Cell}
+use Rattle.order.specs.declared.Order.{Order}
 use Rattle.order.specs.Cells.{place_from, place_of}
+use Rattle.order.specs.Order.{cell_numbers}
+use Rattle.order.proofs.Numbers.{place_at}
+
+-- the first n cells of an order
+module _ (o : Order) (n : ℕ) (h : n ≤ length (cell_numbers o)) where
+  pub front_long : length (take n o.cells) ≡ n
+  unfolding cell_numbers
+  front_long = length-take-le n o.cells (omega (arith, h, length-map o.cells (λ (c : Cell). c.0)))
+
+  pub front_at : (i : ℕ) → i < n → (get_or (take n o.cells) i (record { 0 = 0 })).0 ≡ get_or (cell_numbers o) i 0
+  front_at i l = ap (λ (c : Cell). c.0) (get_or-take n o.cells i (record { 0 = 0 }) l) ∙ place_at o i
 
 -- c is not among the first i
 pub record Passed (xs : List ℕ) (n c i : ℕ) : Type 0 where

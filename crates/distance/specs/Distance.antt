@@ -7,15 +7,14 @@
 --                     nothing changes
 --   exchange_first u, exchange_past k u    the first two cells exchanged; past k cells, the next two
 --   exchanges ks u    the exchanges at each place of a list, one after the other
---   told_distance a    what an answer says: its number, and the distance
+--   told_distance a    what an answer says: its number, and the distance, or 0
 --   distance_of u v    the answer to `distance`
-use Rattle.std.specs.Prelude.{ℕ, zero, suc, ◌+◌, Bool, true, false, cond, List, [], ◌∷◌, eqb}
+use Rattle.std.specs.Prelude.{ℕ, zero, suc, ◌+◌, Bool, true, false, cond, List, [], ◌∷◌, Result, eqb}
 use Rattle.order.specs.declared.Order.{Order}
-use Rattle.order.specs.Refusals.{refusal_number, Told, answer}
+use Rattle.order.specs.declared.Refusal.{Refusal}
+use Rattle.order.specs.Refusals.{Told, told, answer}
 use Rattle.order.specs.Cells.{count_if}
 use Rattle.order.specs.Order.{listed, pair_checks}
-use Rattle.distance.specs.declared.DistanceAnswer.{DistanceAnswer}
-use Rattle.distance.specs.declared.DistanceAnswer.TheVariants.{Refused, Distance}
 
 abbrev pub before : List ℕ → ℕ → ℕ → Bool
 before [] y z = false
@@ -45,9 +44,8 @@ abbrev pub exchanges : List ℕ → List ℕ → List ℕ
 exchanges [] u = u
 exchanges (k ∷ ks) u = exchanges ks (exchange k u)
 
-abbrev pub told_distance : DistanceAnswer → Told ℕ
-told_distance (Refused refusal) = record { number = refusal_number refusal; value = 0 }
-told_distance (Distance d) = record { number = 0; value = d }
+abbrev pub told_distance : Result ℕ Refusal → Told ℕ
+told_distance a = told 0 a
 
 unfoldable pub distance_of : Order → Order → Told ℕ
 distance_of u v = answer (pair_checks u v) (opposed (listed u) (listed v)) 0

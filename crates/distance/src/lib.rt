@@ -9,27 +9,19 @@ ghost use Rattle.order.specs.Cells.{place_of};
 ghost use Rattle.distance.specs.Distance.{opposed, told_distance, distance_of};
 ghost use Rattle.distance.specs.Steps.{front, without, SameFront};
 
-use order::{Cell, Order, Outcome, Refusal};
-
-#[derive(Clone, Copy)]
-pub enum DistanceAnswer {
-    Refused(Refusal),
-    Distance(u32),
-}
+use order::{Cell, Order, Refusal};
 
 // The number of cell pairs that u and v list oppositely.
-pub fn distance(u: Order, v: Order) -> DistanceAnswer
+#[tactic(auto, unfolding(order::specs::Refusals::number_of, order::specs::Refusals::answer, crate::specs::Distance::distance_of))]
+pub fn distance(u: Order, v: Order) -> Result<u32, Refusal>
     ensures { told_distance result ≡ distance_of u v }
 {
-    let outcome = order::check_pair(u, v);
-    if let Outcome::Refused(refusal) = outcome {
-        return DistanceAnswer::Refused(refusal);
-    }
-    DistanceAnswer::Distance(distance_from(u, v, u.len))
+    order::check_pair(u, v)?;
+    Ok(distance_from(u, v, u.len))
 }
 
 // The distance of the first n cells of u and of v, which are the same cells: the last one of u is dropped from both, and
-// n - p is added, where p is its place in v.
+// n - p is added, where p is its place in v. n goes down to 0, so that neither it nor that of `place` and `drop_at` is an `order::Size`.
 fn distance_from(u: Order, v: Order, n: usize) -> u32
     requires { SameFront u v n }
     ensures { result ≡ opposed (front n u) (front n v) }
@@ -43,17 +35,16 @@ fn distance_from(u: Order, v: Order, n: usize) -> u32
     distance_from(u, drop_at(v, p, n), n - 1) + behind
 }
 
-// The place of c among the first n cells, from 1, and 0 where it is not there.
+// The place of c among the first n cells, from 1, and 0 for none, as `place_of` (order, specs Cells) has it. By a `for`, and no `position`, whose result the
+// definition does not follow.
 fn place(o: Order, c: Cell, n: usize) -> usize
     requires { n ≤ 12 }
     ensures { result ≡ place_of (front n o) c.0 }
 {
-    let mut i = 0;
-    while i < n {
-        if o.cells[i].0 == c.0 {
+    for (i, cell) in o.cells[..n].iter().enumerate() {
+        if *cell == c {
             return i + 1;
         }
-        i += 1;
     }
     0
 }
@@ -64,11 +55,6 @@ fn drop_at(v: Order, p: usize, n: usize) -> Order
     ensures { front (n - 1) result ≡ without p (front n v) }
 {
     let mut w = v;
-    let mut i = p;
-    while i < n {
-        let next = w.cells[i];
-        w.cells[i - 1] = next;
-        i += 1;
-    }
+    w.cells.copy_within(p..n, p - 1);
     w
 }

@@ -5,22 +5,17 @@ use native.Mathlib.Omega.{arith}
 use mathlib.Core.Path.{◌≡◌, refl, sym, ap, ◌∙◌}
 use mathlib.Core.Bool.{Bool, true, false, ◌&&◌}
 use mathlib.Core.List.{List, [], ◌∷◌, ◌++◌}
-use mathlib.Core.Option.{some}
 use lib.Dec.{eqb, ltb}
 use borrow.Author.Tests.{ltb-true, lt-ltb}
 use Rattle.order.specs.declared.Order.{Order}
-use Rattle.order.specs.declared.OrderAnswer.{OrderAnswer}
 use Rattle.order.specs.declared.Refusal.{Refusal}
 use Rattle.order.specs.declared.Refusal.TheVariants.{NoSymbol, Blank, Lost}
-use Rattle.order.specs.declared.Outcome.{Outcome}
-use Rattle.order.specs.declared.Outcome.TheVariants.{Done, Refused}
-use Rattle.order.specs.Refusals.{refusal_number, outcome_number, number_of, Told, answer}
+use Rattle.order.specs.Refusals.{refusal_number, number_of, Told, answer}
 use Rattle.order.specs.Cells.{is_order}
-use Rattle.order.specs.Order.{listed, order_record, is_order_of, order_checks, told_order}
-use Rattle.order.proofs.Refusals.{refused_zeros, check_holds, check_fails, check_held, later_decide, refused_first, outcome_first, told_done, told_refused, passed_on, accepted, size_in, all_hold, all_held}
+use Rattle.order.specs.Order.{listed, order_record, is_order_of, order_checks, no_order}
+use Rattle.order.proofs.Refusals.{refused_zeros, check_holds, check_held, later_decide, refused_first, told_done, told_refused, size_in, all_hold, all_held}
 use Rattle.order.proofs.Records.{passed, recorded_length, recorded_list, recorded_passes}
 use Rattle.decoder.specs.Decoding.{correction}
-use Rattle.code.specs.declared.Verdict.{Verdict}
 use Rattle.code.specs.Words.{K}
 use Rattle.code.specs.Symbols.{word_of, Reading, no_reading, reading_at, codeword_checks, codeword_of, decode_of}
 use Rattle.code.proofs.Codewords.{symbol_order}
@@ -28,12 +23,9 @@ use Rattle.group.specs.declared.Group.{Group}
 use Rattle.group.specs.Record.{group_checks}
 use Rattle.push_up.specs.PushUp.{singles}
 use Rattle.push_up.specs.WriteAnswer.{write_checks, push_checks, pushed, unpushed, write_of}
-use Rattle.sensing.specs.Sense.{sense_of}
 use Rattle.group.proofs.Checks.{checked_size}
 use Rattle.sensing.proofs.Sensed.{sensed_order_lem}
-use Rattle.engine.specs.declared.ReadAnswer.{ReadAnswer}
-use Rattle.engine.specs.declared.ReadAnswer.TheVariants as read
-use Rattle.engine.specs.ReadStore.{sensed_order, marked_checks, read_checks, reading_of, told_read, read_of, store_checks, store_of, alike_of}
+use Rattle.engine.specs.ReadStore.{sensed_order, marked_checks, marked_order, read_checks, reading_of, read_of, store_checks, store_of, alike_of}
 
 -- checks that give the same number, and the same result
 same_answer : {A : Type 0} (a b : List (Bool × Refusal)) (x y zeros : A) → number_of a ≡ number_of b → x ≡ y → answer a x zeros ≡ answer b y zeros
@@ -49,32 +41,24 @@ same_first [] a b x y zeros h = h refl
 same_first ((true, r) ∷ first) a b x y zeros h = same_first first a b x y zeros h
 same_first ((false, r) ∷ first) a b x y zeros h = rw (refused_zeros r x zeros, refused_zeros r y zeros)
 
--- ---- the order that is sensed
-
-module _ (g : Group) (a : OrderAnswer) (e : told_order a ≡ sense_of g) where
-  pub sense_number : outcome_number a.outcome ≡ number_of (group_checks g)
-  unfolding sense_of answer
-  sense_number = ap (λ (t : Told Order). t.number) e
-
-  pub sense_record : number_of (group_checks g) ≡ 0 → a.order ≡ order_record (sensed_order g)
-  unfolding sense_of
-  sense_record d = ap (λ (t : Told Order). t.value) (e ∙ sym (told_done _ _ _ d))
-
--- ---- the mark, which is asked where the record is a group
+-- ---- the order that is decoded: the mark is asked where the record is a group
 
 module _ (g : Group) where
-  pub mark_unasked : (r : Refusal) → number_of (group_checks g) ≡ refusal_number r → number_of (marked_checks g) ≡ refusal_number r
-  mark_unasked r e = refused_first _ (group_checks g) r e
-
-  module _ (d : number_of (group_checks g) ≡ 0) where
-    pub mark_fails : g.written ≡ false → number_of (marked_checks g) ≡ refusal_number Blank
-    mark_fails w = later_decide _ (group_checks g) d ∙ check_fails _ _ w
-
-    pub mark_holds : g.written ≡ true → number_of (marked_checks g) ≡ 0
-    mark_holds w = later_decide _ (group_checks g) d ∙ check_holds _ _ w ∙ all_hold
+  pub mark_holds : number_of (group_checks g) ≡ 0 → g.written ≡ true → number_of (marked_checks g) ≡ 0
+  mark_holds d w = later_decide _ (group_checks g) d ∙ check_holds _ _ w ∙ all_hold
 
   pub mark_held : number_of (marked_checks g) ≡ 0 → (number_of (group_checks g) ≡ 0) × (g.written ≡ true)
   mark_held m = let t = all_held _ (group_checks g) m in (t.0, (check_held g.written Blank [] t.1).0)
+
+  pub marked_refused : (r : Refusal) → record { number = refusal_number r; value = no_order } ≡ marked_order g → number_of (marked_checks g) ≡ refusal_number r
+  unfolding marked_order answer
+  marked_refused r e = sym (ap (λ (t : Told Order). t.number) e)
+
+  pub marked_done : {o : Order} → record { number = 0; value = o } ≡ marked_order g → (number_of (marked_checks g) ≡ 0) × (o ≡ order_record (sensed_order g))
+  unfolding marked_order answer
+  marked_done {o} e =
+      let m : number_of (marked_checks g) ≡ 0 = sym (ap (λ (t : Told Order). t.number) e) in
+      (m, ap (λ (t : Told Order). t.value) e ∙ rw m)
 
 -- ---- read
 
@@ -116,6 +100,14 @@ module _ (g : Group) where
       ∙ rw (same.1, same.0) (sym (later_decide _ (marked_checks g) m)))
       (rw (same.1, same.0))
 
+-- the same by the order that is decoded
+module _ (g : Group) where
+  pub read_by_mark : (r : Refusal) → record { number = refusal_number r; value = no_order } ≡ marked_order g → record { number = refusal_number r; value = no_reading } ≡ read_of g
+  read_by_mark r e = read_refused g r (marked_refused g r e)
+
+  pub read_by_order : {o : Order} → record { number = 0; value = o } ≡ marked_order g → decode_of o ≡ read_of g
+  read_by_order e = let (m, same) = marked_done g e in ap decode_of same ∙ read_decoded g m
+
 -- ---- the write of an order of the group's cells: refused as worn or as spent alone
 
 module _ (g : Group) (d : number_of (group_checks g) ≡ 0) (w : List ℕ) (t : is_order g.n w ≡ true) where
@@ -134,10 +126,9 @@ module _ (g : Group) (d : number_of (group_checks g) ≡ 0) (w : List ℕ) (t : 
 
 module _ (g : Group) (s : ℕ) where
   -- the record is no group
-  pub store_refused_lem : {o : Outcome} {r : Refusal} → outcome_number o ≡ number_of (group_checks g) → o ≡ Refused r
-      → record { number = outcome_number o; value = unpushed g } ≡ store_of g s
+  pub store_refused_lem : (r : Refusal) → number_of (group_checks g) ≡ refusal_number r → record { number = refusal_number r; value = unpushed g } ≡ store_of g s
   unfolding store_of
-  store_refused_lem e d = passed_on _ _ _ _ (outcome_first _ (group_checks g) e d) _ d
+  store_refused_lem r e = told_refused _ _ _ r (refused_first _ (group_checks g) r e)
 
   -- a write of any order refuses it likewise
   pub store_by_write : (o : Order) → (number_of (group_checks g) ≡ 0 → write_of g o ≡ store_of g s) → write_of g o ≡ store_of g s
@@ -152,22 +143,17 @@ module _ (g : Group) (s : ℕ) where
     symbol_decides : number_of (codeword_checks g.n s) ≡ number_of symbol_check
     symbol_decides = let size = checked_size g d in check_holds _ _ (size_in g.n size.0 size.1)
 
-    module _ (a : OrderAnswer) (e : told_order a ≡ codeword_of g.n s) where
-      codeword_number : outcome_number a.outcome ≡ number_of symbol_check
-      unfolding codeword_of answer
-      codeword_number = ap (λ (t : Told Order). t.number) e ∙ symbol_decides
+    pub store_no_symbol : (r : Refusal) → record { number = refusal_number r; value = no_order } ≡ codeword_of g.n s → record { number = refusal_number r; value = unpushed g } ≡ store_of g s
+    unfolding codeword_of store_of answer
+    store_no_symbol r e =
+        let refused : number_of symbol_check ≡ refusal_number r = sym symbol_decides ∙ sym (ap (λ (t : Told Order). t.number) e) in
+        told_refused _ _ _ r (later_decide _ (group_checks g) d ∙ refused_first (push_checks g (singles (word_of g.n s))) symbol_check r refused)
 
-      pub store_no_symbol : {r : Refusal} → a.outcome ≡ Refused r → record { number = outcome_number a.outcome; value = unpushed g } ≡ store_of g s
-      unfolding store_of
-      store_no_symbol o = passed_on _ _ _ _ (outcome_first (push_checks g (singles (word_of g.n s))) symbol_check codeword_number o ∙ sym (later_decide _ (group_checks g) d)) _ o
-
-      module _ (o : a.outcome ≡ Done) where
-        pub symbol_below : s < K g.n
-        symbol_below = ltb-true s (K g.n) (check_held _ NoSymbol [] (accepted codeword_number o)).0
-
-        pub codeword_record : a.order ≡ order_record (word_of g.n s)
-        unfolding codeword_of word_of
-        codeword_record = ap (λ (t : Told Order). t.value) (e ∙ sym (told_done _ _ _ (symbol_decides ∙ accepted codeword_number o)))
+    pub store_symbol : {o : Order} → record { number = 0; value = o } ≡ codeword_of g.n s → (s < K g.n) × (o ≡ order_record (word_of g.n s))
+    unfolding codeword_of answer word_of
+    store_symbol {o} e =
+        let passes : number_of (codeword_checks g.n s) ≡ 0 = sym (ap (λ (t : Told Order). t.number) e) in
+        (ltb-true s (K g.n) (check_held _ NoSymbol [] (sym symbol_decides ∙ passes)).0, ap (λ (t : Told Order). t.value) e ∙ rw passes)
 
     -- the codeword is an order of the group's cells, so that to write it is to store the symbol
     module _ (below : s < K g.n) where
@@ -180,6 +166,12 @@ module _ (g : Group) (s : ℕ) where
       store_written =
           write_listed g d (word_of g.n s) word_order (store_checks g s)
           (later_decide _ (group_checks g) d ∙ check_holds _ _ (lt-ltb s (K g.n) below))
+
+  -- the write of the codeword found
+  pub store_by_word : {o : Order} → record { number = 0; value = o } ≡ codeword_of g.n s → write_of g o ≡ store_of g s
+  store_by_word {o} e =
+      store_by_write o
+      (λ d. let (below, same) = store_symbol d e in ap (write_of g) same ∙ store_written d below)
 
 -- ---- alike
 
@@ -202,20 +194,18 @@ module _ (g h : Group) where
     unfolding alike_of
     alike_done e = rw (read_done g (sym (read_number g) ∙ d), read_done h (sym (read_number h) ∙ e)) (told_done _ _ _ (second ∙ e))
 
-  -- the same of the answers to the reads
-  module _ (a : ReadAnswer) (e : told_read a ≡ read_of g) where
-    pub first_refused : {r : Refusal} → a ≡ read.Refused r → record { number = (told_read a).number; value = false } ≡ alike_of g h
-    first_refused {r} o = rw o (alike_first r (ap (λ (t : Told Reading). t.number) (rw o at (sym e))))
+  -- the same by the two reads
+  pub first_refused : (r : Refusal) → record { number = refusal_number r; value = no_reading } ≡ read_of g → record { number = refusal_number r; value = false } ≡ alike_of g h
+  first_refused r e = alike_first r (sym (ap (λ (t : Told Reading). t.number) e))
 
-    module _ {s : ℕ} {v : Verdict} (o : a ≡ read.Read s v) where
-      done : read_of g ≡ record { number = 0; value = record { symbol = s; verdict = some v } }
-      done = rw o at (sym e)
+  module _ {a : Reading} (e : record { number = 0; value = a } ≡ read_of g) where
+    first_done : (read_of g).number ≡ 0
+    first_done = sym (ap (λ (t : Told Reading). t.number) e)
 
-      module _ (b : ReadAnswer) (f : told_read b ≡ read_of h) where
-        pub second_refused : {r : Refusal} → b ≡ read.Refused r → record { number = (told_read b).number; value = false } ≡ alike_of g h
-        second_refused {r} p = rw p (alike_second (rw done) r (ap (λ (t : Told Reading). t.number) (rw p at (sym f))))
+    pub second_refused : (r : Refusal) → record { number = refusal_number r; value = no_reading } ≡ read_of h → record { number = refusal_number r; value = false } ≡ alike_of g h
+    second_refused r f = alike_second first_done r (sym (ap (λ (t : Told Reading). t.number) f))
 
-        pub both_read : {t : ℕ} {w : Verdict} → b ≡ read.Read t w → record { number = 0; value = eqb g.n h.n && eqb s t } ≡ alike_of g h
-        both_read {t} {w} p =
-            let done-2 : read_of h ≡ record { number = 0; value = record { symbol = t; verdict = some w } } = rw p at (sym f) in
-            rw (done, done-2) at (alike_done (rw done) (rw done-2))
+    pub both_read : {b : Reading} → record { number = 0; value = b } ≡ read_of h → record { number = 0; value = eqb g.n h.n && eqb a.symbol b.symbol } ≡ alike_of g h
+    both_read {b} f =
+        let second_done : (read_of h).number ≡ 0 = sym (ap (λ (t : Told Reading). t.number) f) in
+        rw (← e, ← f) at (alike_done first_done second_done)

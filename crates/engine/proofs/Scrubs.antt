@@ -3,7 +3,7 @@
 --   scrub_refused   the refusal of a read is that of a scrub
 --   scrub_written   otherwise the answer is that of the write of the codeword found, with the symbol and the verdict of the read
 --   scrub_stored    which is the store of the symbol read
---   scrub_lost, scrub_found   the same by the answers of `corrected` to the order sensed and of the read
+--   scrub_by_mark, scrub_lost, scrub_found, scrub_worn   the same by the order that is decoded, the answer of `corrected` to it, and that of the write
 --   scrub_reads   after an accepted scrub a read answers the symbol that was read before it, clean
 --   scrub_tells   an accepted scrub tells the symbol and the verdict of a read before it
 --   scrub_group   a group stays a group under scrub
@@ -18,19 +18,19 @@ use mathlib.Core.List.{[]}
 use mathlib.Core.Option.{Option, some}
 use lib.Dec.{ltb}
 use borrow.Author.Tests.{ltb-true}
+use Rattle.order.specs.declared.Order.{Order}
 use Rattle.order.specs.declared.Refusal.{Refusal}
 use Rattle.order.specs.declared.Refusal.TheVariants.{Blank, Lost}
 use Rattle.order.specs.Refusals.{refusal_number, number_of, if_done, Told, answer}
 use Rattle.order.specs.Cells.{is_order}
-use Rattle.order.specs.Order.{order_record}
-use Rattle.order.proofs.Refusals.{later_decide, all_held, check_held, refused_first, told_refused}
+use Rattle.order.specs.Order.{order_record, no_order}
+use Rattle.order.proofs.Refusals.{later_decide, all_held, check_held, refused_first, refused_zeros, told_refused}
 use Rattle.decoder.specs.Decoding.{is_codeword}
 use Rattle.decoder.proofs.Decoding.{exchange_order, corrected}
 use Rattle.code.specs.declared.Verdict.{Verdict}
 use Rattle.code.specs.declared.Verdict.TheVariants.{Clean}
-use Rattle.code.specs.declared.CorrectedAnswer.{CorrectedAnswer}
 use Rattle.code.specs.Words.{K, symbol_of}
-use Rattle.code.specs.Symbols.{word_of, Reading, WordRead, reading_at, told_decode, told_corrected, corrected_of}
+use Rattle.code.specs.Symbols.{word_of, Reading, WordRead, reading_at, corrected_of}
 use Rattle.code.proofs.Laws.{number_below}
 use Rattle.code.proofs.Codewords.{codeword_word, number_of_codeword}
 use Rattle.code.proofs.Reading.{reading_told, decode_part, corrected_word}
@@ -42,11 +42,9 @@ use Rattle.group.proofs.Checks.{checked_size}
 use Rattle.push_up.proofs.Orders.{order_target}
 use Rattle.push_up.proofs.Writes.{push_group, push_again}
 use Rattle.sensing.proofs.Sensed.{sensed_order_lem}
-use Rattle.engine.specs.declared.ReadAnswer.{ReadAnswer}
-use Rattle.engine.specs.declared.ReadAnswer.TheVariants as read
-use Rattle.engine.specs.ReadStore.{sensed_order, place_read, marked_checks, read_checks, reading_of, told_read, read_of, store_of}
-use Rattle.engine.specs.Scrub.{Step, quiet, programmed_step, word_found, scrub_checks, scrub_of, after_read}
-use Rattle.engine.proofs.Answers.{mark_held, read_number, read_done, read_decoded, sensed_recorded, write_listed, word_order, store_written}
+use Rattle.engine.specs.ReadStore.{sensed_order, place_read, marked_order, read_checks, reading_of, read_of, store_of}
+use Rattle.engine.specs.Scrub.{Step, quiet, programmed_step, word_found, scrub_checks, scrub_of}
+use Rattle.engine.proofs.Answers.{mark_held, marked_done, read_number, read_done, sensed_recorded, read_by_mark, read_by_order, write_listed, word_order, store_written}
 use Rattle.engine.proofs.Holds.{store_accepted, store_holds, store_reads}
 
 -- ---- the codeword found, and the symbol that stands for it
@@ -110,18 +108,21 @@ module _ (g : Group) where
     pub scrub_stored : scrubbed g (store_of g (reading_of g).symbol) (reading_of g).symbol (reading_of g).verdict ≡ scrub_of g
     scrub_stored = rw (store_found g d) scrub_written
 
--- by the order sensed, put right, and the answer of the read
-module _ (g : Group) (m : number_of (marked_checks g) ≡ 0) (f : CorrectedAnswer) (e : told_corrected f ≡ corrected_of (order_record (sensed_order g))) where
-  read_corrected : told_decode f.answer ≡ read_of g
-  read_corrected = ap reading_told e ∙ decode_part (order_record (sensed_order g)) ∙ read_decoded g m
+-- by the order that is decoded, and by what `corrected` answers to it
+module _ (g : Group) where
+  pub scrub_by_mark : (r : Refusal) → record { number = refusal_number r; value = no_order } ≡ marked_order g → record { number = refusal_number r; value = quiet g } ≡ scrub_of g
+  scrub_by_mark r e = scrub_refused g r (sym (ap (λ (t : Told Reading). t.number) (read_by_mark g r e)))
 
-  module _ (a : ReadAnswer) (q : told_read a ≡ told_decode f.answer) where
-    pub scrub_lost : {r : Refusal} → a ≡ read.Refused r → after_read g (told_read a) ≡ scrub_of g
-    scrub_lost {r} p = rw p (scrub_refused g r (ap (λ (t : Told Reading). t.number) (rw p at (sym (q ∙ read_corrected)))))
+  module _ {o : Order} (e : record { number = 0; value = o } ≡ marked_order g) where
+    read_corrected : reading_told (corrected_of o) ≡ read_of g
+    read_corrected = decode_part o ∙ read_by_order g e
 
-    module _ {s : ℕ} {v : Verdict} (p : a ≡ read.Read s v) where
+    pub scrub_lost : (r : Refusal) → (corrected_of o).number ≡ refusal_number r → record { number = refusal_number r; value = quiet g } ≡ scrub_of g
+    scrub_lost r f = scrub_refused g r (sym (ap (λ (t : Told Reading). t.number) read_corrected) ∙ f)
+
+    module _ {s : ℕ} {v : Verdict} {w : Order} (f : record { number = 0; value = record { reading = record { symbol = s; verdict = some v }; word = w } } ≡ corrected_of o) where
       answered : read_of g ≡ record { number = 0; value = record { symbol = s; verdict = some v } }
-      answered = rw p at (sym (q ∙ read_corrected))
+      answered = sym (ap reading_told f ∙ read_corrected)
 
       accepted_read : number_of (read_checks g) ≡ 0
       accepted_read = sym (read_number g) ∙ ap (λ (t : Told Reading). t.number) answered
@@ -129,15 +130,17 @@ module _ (g : Group) (m : number_of (marked_checks g) ≡ 0) (f : CorrectedAnswe
       reading : reading_of g ≡ record { symbol = s; verdict = some v }
       reading = ap (λ (t : Told Reading). t.value) (sym (read_done g accepted_read) ∙ answered)
 
-      word : f.word ≡ order_record (word_found g)
+      word : w ≡ order_record (word_found g)
       word =
-          let o = order_record (sensed_order g) in
-          let number : (corrected_of o).number ≡ 0 = ap (λ (t : Told WordRead). t.number) (sym e) ∙ ap (λ (t : Told Reading). t.number) (read_corrected ∙ answered) in
+          let (m, same) = marked_done g e in
           let (len, list) = sensed_recorded g (mark_held g m).0 in
-          ap (λ (t : Told WordRead). t.value.word) e ∙ corrected_word o number ∙ rw (list, len)
+          ap (λ (t : Told WordRead). t.value.word) f ∙ corrected_word o (sym (ap (λ (t : Told WordRead). t.number) f)) ∙ rw (same, list, len)
 
-      pub scrub_found : {t : Told Program} → t ≡ write_of g f.word → scrubbed g t s (some v) ≡ scrub_of g
-      scrub_found o = rw (o, word) (rw reading at (scrub_written g accepted_read))
+      pub scrub_found : {t : Told Program} → t ≡ write_of g w → scrubbed g t s (some v) ≡ scrub_of g
+      scrub_found q = rw (q, word) (rw reading at (scrub_written g accepted_read))
+
+      pub scrub_worn : (r : Refusal) → record { number = refusal_number r; value = unpushed g } ≡ write_of g w → record { number = refusal_number r; value = quiet g } ≡ scrub_of g
+      scrub_worn r q = rw refused_zeros at (scrub_found q)
 
 -- ---- what it leaves
 

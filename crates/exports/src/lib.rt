@@ -10,10 +10,6 @@ ghost use Rattle.cell_run.specs.Run.{level_checks};
 ghost use Rattle.window.specs.Calls.{windows_of, numbers_after, scratch_after};
 ghost use Rattle.load.specs.Load.{load_of, symbols_after};
 
-use code::WordsAnswer;
-use load::LoadAnswer;
-use window::WindowsAnswer;
-
 // Puts what `rmcalls` prints for an input at the start of out, and answers how many bytes that is. Where out is shorter than
 // `rm_room` of the input's length, it stays as it was, and the answer is 0.
 pub fn rm_run(input: &[u8], out: &mut [u8]) -> usize
@@ -34,11 +30,7 @@ pub fn rm_room(size: usize) -> usize
 pub fn rm_words(n: usize) -> u32
     ensures { result ≡ (words_of n).value }
 {
-    let answer = code::words(n);
-    let WordsAnswer::Words(words) = answer else {
-        return 0;
-    };
-    words
+    code::words(n).unwrap_or(0)
 }
 
 // Puts the numbers of the windows along a run with these levels at the start of a list, and the levels at the start of a scratch. The answer is
@@ -54,11 +46,10 @@ pub fn rm_windows(
     ensures numbers_after { numbers.new ≡ numbers_after (level_checks levels.now) levels.now width step numbers.old scratch.old }
     ensures scratch_after { scratch.new ≡ scratch_after (level_checks levels.now) levels.now width step numbers.old scratch.old }
 {
-    let answer = window::windows_of_levels(levels, width, step, numbers, scratch);
-    if let WindowsAnswer::Refused(refusal) = answer {
-        return order::refusal_number(refusal);
+    match window::windows_of_levels(levels, width, step, numbers, scratch) {
+        Ok(_) => 0,
+        Err(refusal) => order::refusal_number(refusal),
     }
-    0
 }
 
 // Fills a list with the symbols of a test load of n cells, and hands back the last state. The answer is the number of a refusal, where the list
@@ -68,12 +59,14 @@ pub fn rm_load(n: usize, seed: u32, list: &mut [u32], last: &mut u32) -> u8
     ensures list_after { list.new ≡ symbols_after n seed list.old }
     ensures last_after { last.new ≡ (load_of n seed (length list.old)).value }
 {
-    let answer = load::load(n, seed, list);
-    let mut number = 0;
-    *last = 0;
-    match answer {
-        LoadAnswer::Refused(refusal) => number = order::refusal_number(refusal),
-        LoadAnswer::Loaded(state) => *last = state,
+    match load::load(n, seed, list) {
+        Ok(state) => {
+            *last = state;
+            0
+        }
+        Err(refusal) => {
+            *last = 0;
+            order::refusal_number(refusal)
+        }
     }
-    number
 }

@@ -1,13 +1,11 @@
--- What an answer says in the refusal table's terms determines the answer.
+-- What the answer of a call that makes or changes a group says in the refusal table's terms determines the answer, whatever group stands beside a refusal.
 -- Assumes nothing.
-use Rattle.std.proofs.Common.{◌≡◌, ap}
-use Rattle.order.specs.Refusals.{Told}
-use Rattle.order.proofs.Refusals.{outcome_by_number}
+use mathlib.Core.Path.{◌≡◌}
+use Rattle.std.specs.Prelude.{Result}
+use Rattle.order.specs.declared.Refusal.{Refusal}
+use Rattle.order.specs.Refusals.{told}
+use Rattle.order.proofs.Told.{told_lem}
 use Rattle.group.specs.declared.Group.{Group}
-use Rattle.group.specs.declared.Changed.{Changed}
-use Rattle.group.specs.Record.{told_changed}
 
-pub told_changed_lem : (a b : Changed) → told_changed a ≡ told_changed b → a ≡ b
-told_changed_lem a b e =
-    let o = outcome_by_number a.outcome b.outcome (ap (λ (t : Told Group). t.number) e) in
-    λ i. record { outcome = o i; group = (ap (λ (t : Told Group). t.value) e) i }
+pub told_changed_lem : (beside : Group) (a b : Result Group Refusal) → told beside a ≡ told beside b → a ≡ b
+told_changed_lem = told_lem

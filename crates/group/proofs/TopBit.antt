@@ -71,11 +71,12 @@ limit_at m n i small l h = ap (bit_and m) (row_at 4294967295 0 n i l h) ∙ go (
     go true = and_mask m 32 ∙ mod-eq_of_lt {n = m} {m = 2 ^ 32} small
     go false = and_zero_r m
 
--- place i is tested
-pub row_gathered : (m n i over w : ℕ) (xs : List ℕ) → m ≤ low → i < length xs → get_or xs i 0 < 2 ^ 32 → w < 2 ^ 32 → (w + get_or xs i 0) % 2 ^ 32 ≡ limit m n i
-    → (leb (bit_or (bit_or over (get_or xs i 0)) w) low && is_row m (n - (i + 1)) (drop (i + 1) xs)) ≡ (leb over low && is_row m (n - i) (drop i xs))
-row_gathered m n i over w xs small l fits less wraps =
-    above_gathered (limit m n i) (get_or xs i 0) w (by (ltb i n)) fits less wraps over _ ∙ ap (λ (b : Bool). leb over low && b) (sym (row_step m n i xs l))
+-- place i is tested against its limit k
+pub row_gathered : (m n i over k : ℕ) (xs : List ℕ) → m ≤ low → i < length xs → get_or xs i 0 < 2 ^ 32 → k ≡ limit m n i
+    → (leb (bit_or (bit_or over (get_or xs i 0)) ((k + (2 ^ 32 - get_or xs i 0)) % 2 ^ 32)) low && is_row m (n - (i + 1)) (drop (i + 1) xs)) ≡ (leb over low && is_row m (n - i) (drop i xs))
+row_gathered m n i over k xs small l fits e =
+    let most : limit m n i ≤ low = by (ltb i n) in
+    above_gathered (limit m n i) (get_or xs i 0) _ most fits (omega arith) (omega arith) over _ ∙ ap (λ (b : Bool). leb over low && b) (sym (row_step m n i xs l))
   where
     by : (b : Bool) → cond b m 0 ≤ low
     by true = small

@@ -16,13 +16,11 @@
 --   with_levels g ls, with_caps g cs, with_used g us, with_mark w g    the record with other levels, other caps, other used pulses, or the mark w
 --   programmed w g ls   the record raised to these levels, with each cell's rise added to its used pulses, and the mark w
 --   erased g            all levels 0, mark cleared; caps, used pulses and endurance kept
---   told_changed a       what an answer with a record says: its number, and the record
 use Rattle.std.specs.Prelude.{◌≡◌, ℕ, ◌-◌, Bool, true, false, ◌&&◌, List, [], ◌∷◌, ◌++◌, length, drop, replicate, nat_le}
 use Rattle.order.specs.declared.Refusal.{Refusal}
 use Rattle.order.specs.declared.Refusal.TheVariants.{Size, NoGroup}
-use Rattle.order.specs.Refusals.{outcome_number, number_of, Told, is_size}
+use Rattle.order.specs.Refusals.{number_of, is_size}
 use Rattle.group.specs.declared.Group.{Group}
-use Rattle.group.specs.declared.Changed.{Changed}
 use Rattle.group.specs.Levels.{tallied}
 
 unfoldable pub all_at_most : ℕ → List ℕ → Bool
@@ -79,6 +77,3 @@ programmed w g ls = changed g ls g.caps (tallied g.used g.levels ls) w
 
 abbrev pub erased : Group → Group
 erased g = changed g (replicate 12 0) g.caps g.used false
-
-abbrev pub told_changed : Changed → Told Group
-told_changed a = record { number = outcome_number a.outcome; value = a.group }

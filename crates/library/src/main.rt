@@ -6,8 +6,10 @@
 // residue at a time.
 #![tactic(auto)]
 
-ghost use Rattle.std.specs.Prelude.{◌≡◌, length};
+ghost use Rattle.std.specs.Prelude.{◌≡◌, ◌≤◌, length};
+ghost use Rattle.runs.specs.Text.{room};
 
+use std::fmt::Display;
 use std::fs::File;
 use std::io;
 use std::rt::Files;
@@ -16,11 +18,10 @@ fn main(rt: HostRuntime) -> io::Result<()> {
     words(&rt)?;
     windows(&rt)?;
     loads(&rt)?;
-    show(&rt, "refusals")?;
-    show(&rt, "left")?;
-    show(&rt, "empty")?;
-    show(&rt, "cut")?;
-    line(&rt, b"long")?;
+    for path in ["refusals", "left", "empty", "cut"] {
+        show(&rt, path)?;
+    }
+    rt.println("long")?;
     let input = long_input();
     let mut text = text_buffer();
     tell_end(&rt, &input, &mut text)
@@ -28,10 +29,8 @@ fn main(rt: HostRuntime) -> io::Result<()> {
 
 // K(n) for n = 0 to 13: 0 where n is no size.
 fn words(rt: &impl Print) -> io::Result<()> {
-    let mut n = 0;
-    while n < 14 {
-        number(rt, b"words ", exports::rm_words(n) as u64)?;
-        n += 1;
+    for n in 0..14 {
+        println!(rt; "words {}", exports::rm_words(n))?;
     }
     Ok(())
 }
@@ -39,10 +38,12 @@ fn words(rt: &impl Print) -> io::Result<()> {
 // Two windows of 12 cells along 14 that are 7 cells apart; the second closes the ring. First with one place for their numbers, then with three.
 fn windows(rt: &impl Print) -> io::Result<()> {
     let levels: [u16; 14] = [5, 1, 1, 9, 0, 3, 5, 0, 2, 2, 4, 9, 1, 0];
-    let mut numbers: [u32; 3] = [7, 7, 7];
+    let mut numbers: [u32; 3] = [7; 3];
     let mut scratch: [u16; 16] = [6; 16];
-    tell_windows(rt, &levels, &mut numbers, 1, &mut scratch)?;
-    tell_windows(rt, &levels, &mut numbers, 3, &mut scratch)
+    for places in [1, 3] {
+        tell_windows(rt, &levels, &mut numbers, places, &mut scratch)?;
+    }
+    Ok(())
 }
 
 // The answer where so many places are lent for the numbers, and both lists as they are then.
@@ -52,59 +53,44 @@ fn tell_windows(
     numbers: &mut [u32],
     places: usize,
     scratch: &mut [u16],
-) -> io::Result<()> {
-    if numbers.len() < places {
-        return Ok(());
-    }
+) -> io::Result<()>
+    requires { places ≤ length numbers.old }
+{
     let answer = exports::rm_windows(levels, 12, 7, &mut numbers[..places], scratch);
-    number(rt, b"rm_windows ", wide(answer))?;
-    list_numbers(rt, numbers)?;
-    list_scratch(rt, scratch)
+    println!(rt; "rm_windows {answer}")?;
+    list(rt, "number", numbers)?;
+    list(rt, "scratch", scratch)
 }
 
 // A size and a seed that are none, a seed that is none, a list without a place, and six symbols of 12 cells from seed 1.
 fn loads(rt: &impl Print) -> io::Result<()> {
-    let mut list: [u32; 6] = [7, 7, 7, 7, 7, 7];
-    tell_loads(rt, &mut list)
-}
-
-fn tell_loads(rt: &impl Print, list: &mut [u32]) -> io::Result<()> {
-    tell_load(rt, 13, 0, list)?;
-    tell_load(rt, 12, 0, list)?;
+    let mut list: [u32; 6] = [7; 6];
+    tell_load(rt, 13, 0, &mut list)?;
+    tell_load(rt, 12, 0, &mut list)?;
     tell_load(rt, 12, 9, &mut list[..0])?;
-    tell_load(rt, 12, 1, list)
+    tell_load(rt, 12, 1, &mut list)
 }
 
 // The answer, the last state and the list.
-fn tell_load(rt: &impl Print, n: usize, seed: u32, list: &mut [u32]) -> io::Result<()> {
+fn tell_load(rt: &impl Print, n: usize, seed: u32, symbols: &mut [u32]) -> io::Result<()> {
     let mut last: u32 = 7;
-    let answer = exports::rm_load(n, seed, list, &mut last);
-    number(rt, b"rm_load ", wide(answer))?;
-    number(rt, b"state ", wide_number(last))?;
-    list_numbers(rt, list)
+    let answer = exports::rm_load(n, seed, symbols, &mut last);
+    println!(rt; "rm_load {answer}")?;
+    println!(rt; "state {last}")?;
+    list(rt, "number", symbols)
 }
 
-fn list_numbers(rt: &impl Print, numbers: &[u32]) -> io::Result<()> {
-    let mut i = 0;
-    while i < numbers.len() {
-        number(rt, b"number ", wide_number(numbers[i]))?;
-        i += 1;
-    }
-    Ok(())
-}
-
-fn list_scratch(rt: &impl Print, scratch: &[u16]) -> io::Result<()> {
-    let mut i = 0;
-    while i < scratch.len() {
-        number(rt, b"scratch ", wide_level(scratch[i]))?;
-        i += 1;
+// Each number of a list, after its name.
+fn list<T: Display>(rt: &impl Print, name: &str, numbers: &[T]) -> io::Result<()> {
+    for n in numbers {
+        println!(rt; "{name} {n}")?;
     }
     Ok(())
 }
 
 // A file's room, answers and text.
 fn show(rt: &(impl Files + Print), path: &str) -> io::Result<()> {
-    line(rt, path.as_bytes())?;
+    rt.println(path)?;
     let mut file = File::open(rt, path)?;
     let mut input = file_buffer();
     let size = console::read_full(&mut file, &mut input);
@@ -112,52 +98,28 @@ fn show(rt: &(impl Files + Print), path: &str) -> io::Result<()> {
     tell(rt, &input[..size], &mut text)
 }
 
-fn tell(rt: &impl Print, input: &[u8], text: &mut [u8]) -> io::Result<()> {
+fn tell(rt: &impl Print, input: &[u8], text: &mut [u8]) -> io::Result<()>
+    requires { room 65536 ≤ length text.old }
+{
     let room = exports::rm_room(input.len());
-    number(rt, b"room ", room as u64)?;
-    if room == 0 {
-        return Ok(());
-    }
-    let none = rm_run_in(input, text, room - 1);
-    number(rt, b"rm_run without room ", none as u64)?;
-    number(rt, b"first byte ", first(text))?;
-    let end = calls::run(input, text);
-    number(rt, b"calls::run ", end as u64)?;
-    let again = rm_run_in(input, text, room);
-    number(rt, b"rm_run ", again as u64)?;
-    write_part(rt, text, again)
-}
-
-// `rm_run` with a buffer of so many bytes.
-fn rm_run_in(input: &[u8], text: &mut [u8], space: usize) -> usize {
-    if text.len() < space {
-        return 0;
-    }
-    exports::rm_run(input, &mut text[..space])
-}
-
-fn first(text: &[u8]) -> u64 {
-    if text.len() == 0 {
-        return 0;
-    }
-    wide(text[0])
-}
-
-fn write_part(rt: &impl Print, text: &[u8], end: usize) -> io::Result<()> {
-    if end <= text.len() {
-        rt.write_all(&text[..end])?;
-    }
-    Ok(())
+    println!(rt; "room {room}")?;
+    let none = exports::rm_run(input, &mut text[..room - 1]);
+    println!(rt; "rm_run without room {none}")?;
+    println!(rt; "first byte {}", text[0])?;
+    println!(rt; "calls::run {}", calls::run(input, text))?;
+    let end = exports::rm_run(input, &mut text[..room]);
+    println!(rt; "rm_run {end}")?;
+    // tested, here and in `tell_end`: `rm_run` says it by an equation of lists alone
+    rt.write_all(&text[..end])
 }
 
 // The room and the answer for an input that is longer than is read, and the last line of its text.
 fn tell_end(rt: &impl Print, input: &[u8], text: &mut [u8]) -> io::Result<()> {
-    number(rt, b"room ", exports::rm_room(input.len()) as u64)?;
+    println!(rt; "room {}", exports::rm_room(input.len()))?;
     let end = exports::rm_run(input, text);
-    number(rt, b"rm_run ", end as u64)?;
+    println!(rt; "rm_run {end}")?;
     if 6 <= end && end <= text.len() {
-        let from = end - 6;
-        rt.write_all(&text[from..end])?;
+        rt.write_all(&text[end - 6..end])?;
     }
     Ok(())
 }
@@ -181,26 +143,4 @@ fn text_buffer() -> [u8; 1048640]
     ensures { 1048640 ≡ length result }
 {
     [0; 1048640]
-}
-
-fn wide(b: u8) -> u64 {
-    b as u64
-}
-
-fn wide_number(n: u32) -> u64 {
-    n as u64
-}
-
-fn wide_level(level: u16) -> u64 {
-    level as u64
-}
-
-fn number(rt: &impl Print, name: &[u8], n: u64) -> io::Result<()> {
-    rt.write_all(name)?;
-    rt.println(n)
-}
-
-fn line(rt: &impl Print, name: &[u8]) -> io::Result<()> {
-    rt.write_all(name)?;
-    rt.write_all(b"\n")
 }

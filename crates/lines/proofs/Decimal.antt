@@ -116,6 +116,13 @@ decimal_length (suc k) n h = go (ltb n 10) refl (decimal_length k (n / 10))
 pub short : (k b : ℕ) {n : ℕ} → n < b → T (leb b (10 ^ suc k)) → length (decimal n) ≤ suc k
 short k b h t = decimal_length k _ (lt_of_lt_of_le h (leb→le b (10 ^ suc k) t))
 
+-- a number of 32 bits, or of 16, which may stand in a wider type
+pub word_length : (m : ℕ) {n : ℕ} → m ≡ n → n < 2 ^ 32 → length (decimal m) ≤ 10
+word_length m e h = short 9 (2 ^ 32) (omega (arith, e, h)) tt
+
+pub level_length : (m : ℕ) {n : ℕ} → m ≡ n → n < 65536 → length (decimal m) ≤ 5
+level_length m e h = short 4 65536 (omega (arith, e, h)) tt
+
 -- ---- the digits of a number give it back
 
 abbrev value_from : ℕ → List ℕ → ℕ

@@ -6,7 +6,9 @@ use native.Mathlib.Omega.{arith}
 use native.Mathlib.Nat.{add-zero}
 use mathlib.Core.List.{List, [], ◌∷◌, ◌++◌, append_assoc, append-nil}
 use lib.ListN.{length, set, take, drop, length-drop, length-set, length-append, take-append-drop}
-use lib.Seq.{length-take-le, take_at, drop_at, drop-drop, set_split}
+use lib.Seq.{length-take-le, take_at, take_all, drop_at, drop-drop, set_split}
+use borrow.Rule.Slice.PartMut.{put_mid}
+use Rattle.std.proofs.lemmas.Slice.{put_mid-paste}
 use Rattle.lines.specs.Line.{pasted}
 use Rattle.lines.specs.Puts.{Puts}
 
@@ -77,20 +79,19 @@ puts_join {a} {b} {c} {t} {u} {at} {mid} {end} p q =
       ends = omega arith;
     }
 
--- a byte before a text, and one after it
+-- a byte before a text
 pub puts_first : {xs later t : List ℕ} {at b end : ℕ} → at < length xs → Puts (set xs at b) later (at + 1) end t → Puts xs later at end (b ∷ t)
 puts_first {xs} {at = at} {b = b} h p = puts_join (puts_byte xs at b h) p
-
-pub puts_last : {xs ys t : List ℕ} {at end : ℕ} (b : ℕ) → end < length ys → Puts xs ys at end t → Puts xs (set ys end b) at (end + 1) (t ++ b ∷ [])
-puts_last {ys = ys} {end = end} b h p = puts_join p (puts_byte ys end b h)
-
-pub puts_two : (xs : List ℕ) (at : ℕ) {b c d e : ℕ} → at + 2 ≤ length xs → b ≡ d → c ≡ e
-    → Puts xs (set (set xs at b) (at + 1) c) at (at + 2) (d ∷ e ∷ [])
-puts_two xs at {b} {c} h p q =
-    let same : length (set xs at b) ≡ length xs = length-set xs at b in
-    let two : at + 1 + 1 ≡ at + 2 = omega arith in
-    rw (← p, ← q, ← two) (puts_join (puts_byte xs at b (omega arith)) (puts_byte (set xs at b) (at + 1) c (omega arith)))
 
 -- the same put, of an equal text
 pub puts_as : {before later t u : List ℕ} {at end : ℕ} → t ≡ u → Puts before later at end t → Puts before later at end u
 puts_as {before} {later} {t} {u} {at} {end} e p = subst (Puts before later at end) e p
+
+-- bytes copied into the place where the text ends
+pub puts_bytes : (xs ys t : List ℕ) (at k end : ℕ) → at + length t ≤ length xs → ys ≡ t → k ≡ length t → end ≡ at + length t → Puts xs (put_mid at k xs ys) at end t
+unfolding pasted
+puts_bytes xs ys t at k end h e s d =
+    let put : put_mid at k xs ys ≡ pasted at t xs =
+    put_mid-paste at k xs ys t (length t) e (sym s) refl
+    ∙ ap (λ (p : List ℕ). take at xs ++ p ++ drop (at + length t) xs) (take_all (length t) t (omega arith)) in
+    record { fits = h; put = put; kept = ap length put ∙ length_pasted at t xs h; ends = d }

@@ -7,13 +7,16 @@
 --   level_text xs        levels joined by commas; `-` where there is no cell, as in the all-zero record
 --   numbers_of           position, kind, refusal, symbol and pulses, with single blanks between them
 --   line_of k kind a     a record's line: these numbers, and the levels of cells 1 to n after the call
+--   told_kept o a        an outcome and what is kept beside it, as an answer to a record says them: the number, and the group, the symbol and the pulses
 --   left_line k          `left` and the count of leftover bytes, if any
 --   sum_line p           `sum` and all pulses
 --   pasted at t xs      xs with the text t from place at on
 --   in_room k at t xs    the text t where the buffer xs has room for k bytes from place at on, and else no text
-use Rattle.std.specs.Prelude.{ℕ, zero, suc, ◌+◌, ◌/◌, ◌%◌, cond, List, [], ◌∷◌, ◌++◌, leb, ltb, length, take, drop}
-use Rattle.order.specs.Refusals.{Told}
+use Rattle.std.specs.Prelude.{ℕ, zero, suc, ◌+◌, ◌/◌, ◌%◌, cond, List, [], ◌∷◌, ◌++◌, leb, ltb, length, take, drop, ⊤, Result}
+use Rattle.order.specs.declared.Refusal.{Refusal}
+use Rattle.order.specs.Refusals.{Told, outcome_number}
 use Rattle.group.specs.declared.Group.{Group}
+use Rattle.records.specs.declared.Answered.{Answered}
 use Rattle.records.specs.Records.{Answer}
 
 -- ---- numbers
@@ -45,6 +48,9 @@ unfoldable pub line_of : ℕ → ℕ → Told Answer → List ℕ
 line_of position kind a =
     let g : Group = a.value.group in
     numbers_of position kind a.number a.value.symbol a.value.pulses ++ 32 ∷ level_text (take g.n g.levels) ++ 10 ∷ []
+
+abbrev pub told_kept : Result ⊤ Refusal → Answered → Told Answer
+told_kept o a = record { number = outcome_number o; value = record { group = a.group; symbol = a.symbol; pulses = a.pulses } }
 
 -- "left "
 unfoldable pub left_line : ℕ → List ℕ

@@ -5,11 +5,11 @@
 // bits, so that one comparison of 64 bits tells the room.
 #![tactic(auto)]
 
-ghost use Rattle.std.specs.Prelude.{◌≡◌, [], ◌∷◌, ◌++◌, ◌+◌, ◌*◌, ◌/◌, ◌%◌, ◌≤◌, ◌<◌, length, take};
-ghost use Rattle.records.specs.Records.{told_answered};
-ghost use Rattle.lines.specs.Line.{decimal, after, level_text, numbers_of, line_of, left_line, sum_line, pasted, in_room};
-ghost use Rattle.lines.specs.Puts.{Puts, pair};
+ghost use Rattle.std.specs.Prelude.{◌≡◌, [], ◌∷◌, ◌++◌, ◌+◌, ◌≤◌, ◌<◌, length, take};
+ghost use Rattle.lines.specs.Line.{decimal, after, level_text, numbers_of, line_of, told_kept, left_line, sum_line, pasted, in_room};
+ghost use Rattle.lines.specs.Puts.{Puts, Adds, Room, pair};
 
+use order::Refusal;
 use records::Answered;
 
 // A room that every line of its kind fits into.
@@ -19,102 +19,41 @@ const LEFT_ROOM: usize = 26;
 
 const SUM_ROOM: usize = 25;
 
-const BLANK: u8 = 32;
-
-const COMMA: u8 = 44;
-
-const LINE_FEED: u8 = 10;
-
-// Two bytes as one number, low byte first: two digits 0, a blank and a digit 0, a blank and a dash, and the letters of `left` and `sum`.
+// Two digits 0, as one number, low byte first.
 const ZEROS: u32 = 48 + 256 * 48;
 
-const BLANK_ZERO: u32 = 32 + 256 * 48;
+// A text that is being put into a lent buffer, and the place where it ends.
+#[derive(Drop)]
+struct Text<'a> {
+    out: &'a mut [u8],
+    at: usize,
+}
 
-const BLANK_DASH: u32 = 32 + 256 * 45;
-
-const EF: u32 = 101 + 256 * 102;
-
-const T_BLANK: u32 = 116 + 256 * 32;
-
-const SU: u32 = 115 + 256 * 117;
-
-const M_BLANK: u32 = 109 + 256 * 32;
-
-// A record's line.
-pub fn put_line(out: &mut [u8], from: u32, position: u32, kind: u8, a: Answered) -> usize
-    ensures value { result ≡ from + length (in_room 128 from (line_of position kind (told_answered a)) out.old) }
-    ensures out_after { out.new ≡ pasted from (in_room 128 from (line_of position kind (told_answered a)) out.old) out.old }
+// A record's line, by the outcome of its answer and what is kept beside it: `Ok` has nothing beside a refusal, and a line shows the group of both. The frame of
+// `put_line`, `put_left` and `put_sum` (place, room, text) stands three times: one function with a closure would have to state the three clauses again,
+// and another on what the closure adds.
+pub fn put_line(
+    out: &mut [u8],
+    from: u32,
+    position: u32,
+    kind: u8,
+    outcome: Result<(), Refusal>,
+    kept: Answered,
+) -> usize
+    ensures value { result ≡ from + length (in_room 128 from (line_of position kind (told_kept outcome kept)) out.old) }
+    ensures out_after { out.new ≡ pasted from (in_room 128 from (line_of position kind (told_kept outcome kept)) out.old) out.old }
     ensures upper_bound { result ≤ from + 128 }
 {
     let at = from as usize;
-    let outcome = a.outcome;
-    // before the test of the room: the other way round costs an instruction more
     let number = order::outcome_number(outcome);
     if out.len() < at + LINE_ROOM {
         return at;
     }
-    let levels = a.group.levels;
-    let mut end = put_numbers(out, at, position, kind, number, a.symbol, a.pulses);
-    end = put_levels(out, end, a.group.n, levels);
-    out[end] = LINE_FEED;
-    end + 1
-}
-
-// The numbers of a line, up to the levels.
-fn put_numbers(
-    out: &mut [u8],
-    at: usize,
-    position: u32,
-    kind: u8,
-    number: u8,
-    symbol: u32,
-    pulses: u32,
-) -> usize
-    requires { at + 54 ≤ length out.old }
-    ensures puts { Puts out.old out.new at result (numbers_of position kind number symbol pulses) }
-    ensures upper_bound { result ≤ at + 54 }
-{
-    let mut end = put_number(out, at, position as u64);
-    end = put_field(out, end, kind as u32);
-    end = put_field(out, end, number as u32);
-    end = put_field(out, end, symbol);
-    put_field(out, end, pulses)
-}
-
-// A blank, and a number after it: one digit as a rule.
-fn put_field(out: &mut [u8], at: usize, n: u32) -> usize
-    requires { at + 11 ≤ length out.old }
-    ensures puts { Puts out.old out.new at result (after 32 n) }
-    ensures upper_bound { result ≤ at + 11 }
-{
-    if n < 10 {
-        let both = BLANK_ZERO + 256 * n;
-        return put_two(out, at, both);
-    }
-    out[at] = BLANK;
-    put_number(out, at + 1, n as u64)
-}
-
-// A blank, and the levels of cells 1 to n after it, joined by commas.
-fn put_levels(out: &mut [u8], at: usize, n: usize, levels: [u16; 12]) -> usize
-    requires { at + 72 ≤ length out.old }
-    ensures puts { Puts out.old out.new at result (32 ∷ level_text (take n levels)) }
-    ensures upper_bound { result ≤ at + 72 }
-{
-    if n == 0 {
-        return put_two(out, at, BLANK_DASH);
-    }
-    let cells = if n < 12 { n } else { 12 };
-    let mut end = at;
-    let mut mark = BLANK;
-    let mut i = 0;
-    while i < cells {
-        out[end] = mark;
-        end = put_number(out, end + 1, levels[i] as u64);
-        mark = COMMA;
-        i += 1;
-    }
-    end
+    let mut text = Text::new(out, at);
+    text.put_numbers(position, kind, number, kept.symbol, kept.pulses);
+    text.put_levels(kept.group.n, kept.group.levels);
+    text.put(b"\n");
+    text.at
 }
 
 // The line of the leftover bytes, if there are any.
@@ -124,14 +63,12 @@ pub fn put_left(out: &mut [u8], from: u32, left: usize) -> usize
     ensures upper_bound { result ≤ from + 26 }
 {
     let at = from as usize;
-    if out.len() < at + LEFT_ROOM {
+    if out.len() < at + LEFT_ROOM || left == 0 {
         return at;
     }
-    if left == 0 {
-        return at;
-    }
-    out[at] = b'l';
-    put_named(out, at + 1, EF, T_BLANK, left as u64)
+    let mut text = Text::new(out, at);
+    text.put_named(b"left ", left as u64);
+    text.at
 }
 
 // The line of all pulses.
@@ -144,88 +81,141 @@ pub fn put_sum(out: &mut [u8], from: u32, pulses: u64) -> usize
     if out.len() < at + SUM_ROOM {
         return at;
     }
-    put_named(out, at, SU, M_BLANK, pulses)
+    let mut text = Text::new(out, at);
+    text.put_named(b"sum ", pulses);
+    text.at
 }
 
-// The end of a line that is a word and a number: two letters, a letter and a blank, the number, and a line feed.
-fn put_named(out: &mut [u8], at: usize, letters: u32, last: u32, n: u64) -> usize
-    requires { (letters < 65536) × (last < 65536) × (at + 25 ≤ length out.old) }
-    ensures puts { Puts out.old out.new at result (letters % 256 ∷ letters / 256 ∷ last % 256 ∷ last / 256 ∷ decimal n ++ 10 ∷ []) }
-    ensures upper_bound { result ≤ at + 25 }
-{
-    let mut end = put_two(out, at, letters);
-    end = put_two(out, end, last);
-    end = put_number(out, end, n);
-    out[end] = LINE_FEED;
-    end + 1
-}
-
-// A number in base ten. Most have four digits at most, and are put without recursion.
-fn put_number(out: &mut [u8], at: usize, n: u64) -> usize
-    requires { at + length (decimal n) ≤ length out.old }
-    ensures { Puts out.old out.new at result (decimal n) }
-{
-    if n < 10000 {
-        return put_short(out, at, n as u32);
+impl<'a> Text<'a> {
+    fn new(out: &'a mut [u8], at: usize) -> Text<'a>
+        ensures same { result.out.ghost_name ≡ out.entry.ghost_name }
+        ensures buffer { result.out.now ≡ out.old }
+        ensures place { result.at ≡ at }
+    {
+        Text { out, at }
     }
-    put_long(out, at, n)
+
+    // The numbers of a line, up to the levels.
+    fn put_numbers(&mut self, position: u32, kind: u8, number: u8, symbol: u32, pulses: u32)
+        requires { Room 54 self.old }
+        ensures { Adds 54 self.old self.new (numbers_of position kind number symbol pulses) }
+    {
+        self.put_number(u64::from(position));
+        self.put_field(u32::from(kind));
+        self.put_field(u32::from(number));
+        self.put_field(symbol);
+        self.put_field(pulses);
+    }
+
+    // A blank, and a number after it: one digit as a rule.
+    fn put_field(&mut self, n: u32)
+        requires { Room 11 self.old }
+        ensures { Adds 11 self.old self.new (after 32 n) }
+    {
+        if n < 10 {
+            self.put(&[b' ', b'0' + n as u8]);
+            return;
+        }
+        self.put(b" ");
+        self.put_number(u64::from(n));
+    }
+
+    // A blank, and the levels of cells 1 to n after it, joined by commas.
+    fn put_levels(&mut self, n: usize, levels: [u16; 12])
+        requires { Room 72 self.old }
+        ensures { Adds 72 self.old self.new (32 ∷ level_text (take n levels)) }
+    {
+        if n == 0 {
+            self.put(b" -");
+            return;
+        }
+        let mut mark = b' ';
+        for level in &levels[..n.min(12)] {
+            self.put(&[mark]);
+            self.put_number(u64::from(*level));
+            mark = b',';
+        }
+    }
+
+    // A line of a word and a number.
+    fn put_named(&mut self, word: &[u8], n: u64)
+        requires { Room (length word.now + 21) self.old }
+        ensures { Adds (length word.now + 21) self.old self.new (word.now ++ decimal n ++ 10 ∷ []) }
+    {
+        self.put(word);
+        self.put_number(n);
+        self.put(b"\n");
+    }
+
+    // A number in base ten. Most have four digits at most, and are put without recursion. In line, since a text that a call is handed stands in
+    // memory at every byte; so `put_long` is handed the buffer and the place.
+    #[cycle(number)]
+    #[inline(always)]
+    fn put_number(&mut self, n: u64)
+        requires { Room (length (decimal n)) self.old }
+        ensures { Adds (length (decimal n)) self.old self.new (decimal n) }
+    {
+        if n < 10000 {
+            self.put_short(n as u32);
+            return;
+        }
+        self.at = put_long(self.out, self.at, n);
+    }
+
+    // A number of four digits at most.
+    fn put_short(&mut self, n: u32)
+        requires { (n < 10000) × Room (length (decimal n)) self.old }
+        ensures { Adds (length (decimal n)) self.old self.new (decimal n) }
+    {
+        if n < 100 {
+            self.put_small(n);
+            return;
+        }
+        self.put_small(n / 100);
+        self.put_pair(n % 100);
+    }
+
+    // A number of one digit or two.
+    fn put_small(&mut self, n: u32)
+        requires { (n < 100) × Room (length (decimal n)) self.old }
+        ensures { Adds (length (decimal n)) self.old self.new (decimal n) }
+    {
+        if n < 10 {
+            self.put(&[b'0' + n as u8]);
+            return;
+        }
+        self.put_pair(n);
+    }
+
+    // Two digits, which are one number, low byte first: the compiler makes one store of them.
+    fn put_pair(&mut self, n: u32)
+        requires { (n < 100) × Room 2 self.old }
+        ensures { Adds 2 self.old self.new (pair n) }
+    {
+        let both = ZEROS + n / 10 + 256 * (n % 10);
+        self.put(&(both as u16).to_le_bytes());
+    }
+
+    fn put(&mut self, bytes: &[u8])
+        requires { Room (length bytes.now) self.old }
+        ensures { Adds (length bytes.now) self.old self.new bytes.now }
+    {
+        let end = self.at + bytes.len();
+        self.out[self.at..end].copy_from_slice(bytes);
+        self.at = end;
+    }
 }
 
 // A number of five digits or more: the last four come after the others.
+#[cycle(number)]
 fn put_long(out: &mut [u8], at: usize, n: u64) -> usize
     requires { (10000 ≤ n) × (at + length (decimal n) ≤ length out.old) }
     ensures { Puts out.old out.new at result (decimal n) }
 {
-    let high = n / 10000;
-    let mut end = if high < 10000 {
-        put_short(out, at, high as u32)
-    } else {
-        put_long(out, at, high)
-    };
+    let mut text = Text::new(out, at);
+    text.put_number(n / 10000);
     let low = (n % 10000) as u32;
-    end = put_pair(out, end, low / 100);
-    put_pair(out, end, low % 100)
-}
-
-// A number of four digits at most.
-fn put_short(out: &mut [u8], at: usize, n: u32) -> usize
-    requires { (n < 10000) × (at + length (decimal n) ≤ length out.old) }
-    ensures { Puts out.old out.new at result (decimal n) }
-{
-    if n < 100 {
-        return put_small(out, at, n);
-    }
-    let end = put_small(out, at, n / 100);
-    put_pair(out, end, n % 100)
-}
-
-// A number of one digit or two.
-fn put_small(out: &mut [u8], at: usize, n: u32) -> usize
-    requires { (n < 100) × (at + length (decimal n) ≤ length out.old) }
-    ensures { Puts out.old out.new at result (decimal n) }
-{
-    if n < 10 {
-        out[at] = (48 + n) as u8;
-        return at + 1;
-    }
-    put_pair(out, at, n)
-}
-
-// Two digits.
-fn put_pair(out: &mut [u8], at: usize, n: u32) -> usize
-    requires { (n < 100) × (at + 2 ≤ length out.old) }
-    ensures { Puts out.old out.new at result (pair n) }
-{
-    let both = ZEROS + n / 10 + 256 * (n % 10);
-    put_two(out, at, both)
-}
-
-// Two bytes, which are one number, low byte first: the compiler makes one store of them.
-fn put_two(out: &mut [u8], at: usize, both: u32) -> usize
-    requires { (both < 65536) × (at + 2 ≤ length out.old) }
-    ensures { Puts out.old out.new at result (both % 256 ∷ both / 256 ∷ []) }
-{
-    out[at] = (both % 256) as u8;
-    out[at + 1] = (both / 256) as u8;
-    at + 2
+    text.put_pair(low / 100);
+    text.put_pair(low % 100);
+    text.at
 }

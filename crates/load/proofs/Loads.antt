@@ -18,12 +18,13 @@ use native.Mathlib.Omega.{arith}
 use lib.Dec.{leb}
 use lib.ListN.{length, get_or, length-append}
 use borrow.Author.Tests.{leb-true, le-leb, lt-ltb}
+use Rattle.std.specs.Prelude.{Err}
 use Rattle.order.specs.declared.Refusal.{Refusal}
 use Rattle.order.specs.declared.Refusal.TheVariants.{Size, Seed}
-use Rattle.order.specs.Refusals.{refusal_number, number_of, Told, is_size}
-use Rattle.order.proofs.Refusals.{refused_zeros, check_fails, check_holds, all_hold, told_done, told_refused, sized_holds, sized_done}
+use Rattle.order.specs.Refusals.{refusal_number, number_of, Told, answer, is_size}
+use Rattle.order.proofs.Refusals.{refused_zeros, refused_first, check_fails, check_holds, all_hold, told_done, told_refused, sized_holds, sized_done}
 use Rattle.code.specs.Words.{K}
-use Rattle.code.specs.Symbols.{codeword_checks}
+use Rattle.code.specs.Symbols.{codeword_checks, told_words, words_of}
 use Rattle.code.proofs.Laws.{some_symbol}
 use Rattle.load.specs.Load.{next_state, state_after, symbols, load_checks, load_of, symbols_after}
 use Rattle.load.specs.Claims.{IsState, handed_on, MadeWhole}
@@ -51,6 +52,15 @@ symbols_cut m (suc j) k x = rw suc-add (ap (λ (l : List ℕ). next_state x % m 
 
 pub load_passes : (n x : ℕ) → is_size n ≡ true → 0 < x → number_of (load_checks n x) ≡ 0
 load_passes n x size pos = check_holds _ _ size ∙ check_holds _ _ (le-leb 1 x pos) ∙ all_hold
+
+-- the refusal of a size, passed on
+pub words_refused : (n x : ℕ) (r : Refusal) → told_words (Err r) ≡ words_of n → number_of (load_checks n x) ≡ refusal_number r
+unfolding words_of answer
+words_refused n x r e = refused_first ((leb 1 x, Seed) ∷ []) ((is_size n, Size) ∷ []) r (sym (ap (λ (t : Told ℕ). t.number) e))
+
+-- a seed of 0
+pub seed_refused : (n x : ℕ) → is_size n ≡ true → x ≡ 0 → number_of (load_checks n x) ≡ refusal_number Seed
+seed_refused n x size e = check_holds Size _ size ∙ check_fails Seed [] (ap (leb 1) e)
 
 module _ (n x : ℕ) where
   module _ (e : number_of (load_checks n x) ≡ 0) where

@@ -6,17 +6,15 @@
 --   state_after k x           the state that is k steps after x
 --   symbols m x k            k symbols from the state x on, where there are m codewords: each is the new state modulo m
 --   load_checks n seed        the checks of a load: 1, then 21 for a seed of 0
---   told_load a               what an answer says: its number, and the last state
+--   told_load a               what an answer says: its number, and the last state, or 0
 --   load_of n seed k          the answer to a load of k symbols: the last state, which is the seed where k is 0; 0 beside a refusal
 --   symbols_after n seed xs   the lent list xs after a load: symbols in all places, and as it was where the load is refused
-use Rattle.std.specs.Prelude.{ℕ, zero, suc, ◌*◌, ◌/◌, ◌%◌, ◌^◌, Bool, List, [], ◌∷◌, leb, length}
+use Rattle.std.specs.Prelude.{ℕ, zero, suc, ◌*◌, ◌/◌, ◌%◌, ◌^◌, Bool, List, [], ◌∷◌, Result, leb, length}
 use Rattle.std.specs.Int.Bits.{bit_xor}
 use Rattle.order.specs.declared.Refusal.{Refusal}
 use Rattle.order.specs.declared.Refusal.TheVariants.{Size, Seed}
-use Rattle.order.specs.Refusals.{refusal_number, number_of, if_done, Told, answer, is_size}
+use Rattle.order.specs.Refusals.{number_of, if_done, Told, told, answer, is_size}
 use Rattle.code.specs.Words.{K}
-use Rattle.load.specs.declared.LoadAnswer.{LoadAnswer}
-use Rattle.load.specs.declared.LoadAnswer.TheVariants.{Refused, Loaded}
 
 -- ---- the generator
 
@@ -45,9 +43,8 @@ symbols m x (suc k) = next_state x % m ∷ symbols m (next_state x) k
 abbrev pub load_checks : ℕ → ℕ → List (Bool × Refusal)
 load_checks n seed = (is_size n, Size) ∷ (leb 1 seed, Seed) ∷ []
 
-abbrev pub told_load : LoadAnswer → Told ℕ
-told_load (Refused refusal) = record { number = refusal_number refusal; value = 0 }
-told_load (Loaded state) = record { number = 0; value = state }
+abbrev pub told_load : Result ℕ Refusal → Told ℕ
+told_load a = told 0 a
 
 unfoldable pub load_of : ℕ → ℕ → ℕ → Told ℕ
 load_of n seed k = answer (load_checks n seed) (state_after k seed) 0

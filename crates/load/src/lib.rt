@@ -7,15 +7,7 @@
 ghost use Rattle.std.specs.Prelude.{◌≡◌, ◌<◌, length};
 ghost use Rattle.load.specs.Load.{next_state, state_after, symbols, told_load, load_of, symbols_after};
 
-use code::WordsAnswer;
 use order::Refusal;
-
-// The last state, or why nothing was filled in.
-#[derive(Clone, Copy)]
-pub enum LoadAnswer {
-    Refused(Refusal),
-    Loaded(u32),
-}
 
 // The state after a state; 0, which is none, stays 0.
 pub fn next_state(state: u32) -> u32
@@ -27,18 +19,15 @@ pub fn next_state(state: u32) -> u32
 }
 
 // Fills a list with symbols of n cells, the first from the state after the seed.
-pub fn load(n: usize, seed: u32, list: &mut [u32]) -> LoadAnswer
+pub fn load(n: usize, seed: u32, list: &mut [u32]) -> Result<u32, Refusal>
     ensures result_value { told_load result ≡ load_of n seed (length list.old) }
     ensures list_after { list.new ≡ symbols_after n seed list.old }
 {
-    let counted = code::words(n);
-    let WordsAnswer::Words(words) = counted else {
-        return LoadAnswer::Refused(Refusal::Size);
-    };
+    let words = code::words(n)?;
     if seed == 0 {
-        return LoadAnswer::Refused(Refusal::Seed);
+        return Err(Refusal::Seed);
     }
-    LoadAnswer::Loaded(fill(words, seed, list))
+    Ok(fill(words, seed, list))
 }
 
 // Fills a list with the states after the seed, each modulo the number of codewords; the last state.
@@ -48,11 +37,9 @@ fn fill(words: u32, seed: u32, list: &mut [u32]) -> u32
     ensures list_after { list.new ≡ symbols words seed (length list.old) }
 {
     let mut state = seed;
-    let mut i = 0;
-    while i < list.len() {
+    for symbol in list.iter_mut() {
         state = next_state(state);
-        list[i] = state % words;
-        i += 1;
+        *symbol = state % words;
     }
     state
 }

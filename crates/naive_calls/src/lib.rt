@@ -6,6 +6,7 @@ pub mod cuts;
 pub mod loads;
 pub mod machine;
 pub mod pages;
+pub mod rows;
 pub mod shared;
 pub mod symbols;
 pub mod tallies;

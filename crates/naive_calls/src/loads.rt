@@ -1,41 +1,33 @@
 // Test loads (document 02, request (i)): a state is taken apart into its 32 bits, the lowest first.
 use crate::symbols::all_words;
-use naive::numbers::{add, is_size, times, wide32};
+use naive::numbers::is_size;
+use order::Refusal;
 
-// The answer to a load, and the list after it.
-#[derive(Clone, Copy)]
-pub struct LoadFound {
-    pub number: u8,
-    pub state: u32,
-    pub list: [u32; 40],
-}
-
-fn bits_of(state: u32) -> [u8; 32] {
-    let mut bits = [0u8; 32];
+fn bits_of(state: u32) -> [bool; 32] {
+    let mut bits = [false; 32];
     let mut left = state;
-    for k in 0..32 {
-        bits[k] = if left % 2 == 0 { 0 } else { 1 };
-        left = left / 2;
+    for bit in &mut bits {
+        *bit = left % 2 == 1;
+        left /= 2;
     }
     bits
 }
 
-fn number_of(bits: [u8; 32]) -> u32 {
+fn number_of(bits: [bool; 32]) -> u32 {
     let mut number: u32 = 0;
-    for k in 0..32 {
-        number = std::num::wrapping_add_u32(times(number, 2), wide32(bits[31 - k]));
+    for bit in bits.iter().rev() {
+        number = number.wrapping_mul(2).wrapping_add(u32::from(*bit));
     }
     number
 }
 
-// 1 where a bit differs from the one that comes to its place when all are moved up by so many places, or down by so many; else 0. Where none comes it
+// Set where a bit differs from the one that comes to its place when all are moved up by so many places, or down by so many. Where none comes it
 // stays.
-fn stage(bits: [u8; 32], up: usize, down: usize) -> [u8; 32] {
+fn stage(bits: [bool; 32], up: usize, down: usize) -> [bool; 32] {
     let mut next = bits;
-    for k in 0..32 {
-        let from = std::num::wrapping_sub_usize(add(k, down), up);
-        if from < 32 {
-            next[k] = if bits[k] == bits[from] { 0 } else { 1 };
+    for (k, bit) in next.iter_mut().enumerate() {
+        if let Some(other) = bits.get(k.wrapping_add(down).wrapping_sub(up)) {
+            *bit ^= *other;
         }
     }
     next
@@ -47,36 +39,21 @@ pub fn next_state(state: u32) -> u32 {
     number_of(stage(second, 5, 0))
 }
 
-// A load into the first places of a list.
-pub fn load(n: usize, seed: u32, list: [u32; 40], places: usize) -> LoadFound {
+// A load into a list, and the state after it.
+pub fn load(n: usize, seed: u32, list: &mut [u32]) -> Result<u32, Refusal> {
     if !is_size(n) {
-        return LoadFound {
-            number: 1,
-            state: 0,
-            list,
-        };
+        return Err(Refusal::Size);
     }
     if seed == 0 {
-        return LoadFound {
-            number: 21,
-            state: 0,
-            list,
-        };
+        return Err(Refusal::Seed);
     }
     let words = all_words(n);
-    let mut next = list;
     let mut state = seed;
-    for i in 0..40 {
-        if i < places {
-            state = next_state(state);
-            if words != 0 {
-                next[i] = state % words;
-            }
+    for symbol in list.iter_mut() {
+        state = next_state(state);
+        if words != 0 {
+            *symbol = state % words;
         }
     }
-    LoadFound {
-        number: 0,
-        state,
-        list: next,
-    }
+    Ok(state)
 }

@@ -11,6 +11,7 @@ pub mod Check
 pub mod Places
 pub mod Filling
 pub mod Records
+pub mod Parts
 pub mod Pairs
 pub mod Told
 pub mod Row

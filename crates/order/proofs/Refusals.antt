@@ -1,65 +1,74 @@
 -- The refusal table: what a number tells, and how an answer follows from its checks.
 -- Assumes nothing.
 use Prim.Native.Nat.{ℕ, zero, suc, ◌≤◌, ◌<◌}
+use native.Mathlib.Omega.{arith}
 use mathlib.Core.Path.{◌≡◌, refl, sym, ap, ◌∙◌}
-use mathlib.Core.Bool.{Bool, true, false, and-false, true≢false}
+use mathlib.Core.Bool.{Bool, true, false, and-false}
 use mathlib.Core.List.{List, [], ◌∷◌, ◌++◌}
 use lib.Dec.{leb}
 use lib.ListN.{get_or}
 use borrow.Author.Tests.{leb-true, le-leb, lt-leb}
 use Rattle.order.specs.declared.Refusal.{Refusal}
 use Rattle.order.specs.declared.Refusal.TheVariants.{Size, NoGroup, NoCell, NoOrder, NoSymbol, Blank, Lost, Worn, CapUp, ListShort, Coordinate, BadRecord, RunLimit, NoRaise, RoomShort, NoPage, Measurement, RankSizes, Spent, Endurance, Seed}
-use Rattle.order.specs.declared.Outcome.{Outcome}
-use Rattle.order.specs.declared.Outcome.TheVariants.{Done, Refused}
+use Rattle.std.specs.Prelude.{Result, Ok, Err}
 use Rattle.order.specs.Refusals.{refusal_number, outcome_number, number_of, if_done, answer, is_size}
 use Rattle.order.proofs.Cells.{both}
 
--- ---- the number determines the outcome
+-- ---- the number determines the refusal
 
-outcomes : List Outcome
-outcomes = Done ∷ Refused Size ∷ Refused NoGroup ∷ Refused NoCell ∷ Refused NoOrder ∷ Refused NoSymbol ∷ Refused Blank ∷ Refused Lost ∷ Refused Worn ∷ Refused CapUp ∷ Refused ListShort ∷ Refused Coordinate ∷ Refused BadRecord ∷ Refused RunLimit ∷ Refused NoRaise ∷ Refused RoomShort ∷ Refused NoPage ∷ Refused Measurement ∷ Refused RankSizes ∷ Refused Spent ∷ Refused Endurance ∷ Refused Seed ∷ []
+refusals : List Refusal
+refusals = Size ∷ Size ∷ NoGroup ∷ NoCell ∷ NoOrder ∷ NoSymbol ∷ Blank ∷ Lost ∷ Worn ∷ CapUp ∷ ListShort ∷ Coordinate ∷ BadRecord ∷ RunLimit ∷ NoRaise ∷ RoomShort ∷ NoPage ∷ Measurement ∷ RankSizes ∷ Spent ∷ Endurance ∷ Seed ∷ []
 
-outcome_at : (o : Outcome) → get_or outcomes (outcome_number o) Done ≡ o
-unfolding outcomes
-outcome_at Done = refl
-outcome_at (Refused Size) = refl
-outcome_at (Refused NoGroup) = refl
-outcome_at (Refused NoCell) = refl
-outcome_at (Refused NoOrder) = refl
-outcome_at (Refused NoSymbol) = refl
-outcome_at (Refused Blank) = refl
-outcome_at (Refused Lost) = refl
-outcome_at (Refused Worn) = refl
-outcome_at (Refused CapUp) = refl
-outcome_at (Refused ListShort) = refl
-outcome_at (Refused Coordinate) = refl
-outcome_at (Refused BadRecord) = refl
-outcome_at (Refused RunLimit) = refl
-outcome_at (Refused NoRaise) = refl
-outcome_at (Refused RoomShort) = refl
-outcome_at (Refused NoPage) = refl
-outcome_at (Refused Measurement) = refl
-outcome_at (Refused RankSizes) = refl
-outcome_at (Refused Spent) = refl
-outcome_at (Refused Endurance) = refl
-outcome_at (Refused Seed) = refl
-
-pub outcome_by_number : (a b : Outcome) → outcome_number a ≡ outcome_number b → a ≡ b
-outcome_by_number a b e = sym (outcome_at a) ∙ ap (λ (k : ℕ). get_or outcomes k Done) e ∙ outcome_at b
+refusal_at : (r : Refusal) → get_or refusals (refusal_number r) Size ≡ r
+unfolding refusals
+refusal_at Size = refl
+refusal_at NoGroup = refl
+refusal_at NoCell = refl
+refusal_at NoOrder = refl
+refusal_at NoSymbol = refl
+refusal_at Blank = refl
+refusal_at Lost = refl
+refusal_at Worn = refl
+refusal_at CapUp = refl
+refusal_at ListShort = refl
+refusal_at Coordinate = refl
+refusal_at BadRecord = refl
+refusal_at RunLimit = refl
+refusal_at NoRaise = refl
+refusal_at RoomShort = refl
+refusal_at NoPage = refl
+refusal_at Measurement = refl
+refusal_at RankSizes = refl
+refusal_at Spent = refl
+refusal_at Endurance = refl
+refusal_at Seed = refl
 
 pub refusal_by_number : (r s : Refusal) → refusal_number r ≡ refusal_number s → r ≡ s
-refusal_by_number r s e = let o : Refused r ≡ Refused s = outcome_by_number (Refused r) (Refused s) e in cc
-
-is_done : Outcome → Bool
-is_done Done = true
-is_done (Refused r) = false
+refusal_by_number r s e = sym (refusal_at r) ∙ ap (λ (k : ℕ). get_or refusals k Size) e ∙ refusal_at s
 
 -- no refusal has the number 0
 pub not-zero : (r : Refusal) → refusal_number r ≡ 0 → ⊥
-unfolding outcomes is_done
-not-zero r e =
-    let done : Refused r ≡ Done = sym (outcome_at (Refused r)) ∙ ap (λ (k : ℕ). get_or outcomes k Done) e in
-    true≢false (sym (ap is_done done))
+not-zero Size e = omega arith
+not-zero NoGroup e = omega arith
+not-zero NoCell e = omega arith
+not-zero NoOrder e = omega arith
+not-zero NoSymbol e = omega arith
+not-zero Blank e = omega arith
+not-zero Lost e = omega arith
+not-zero Worn e = omega arith
+not-zero CapUp e = omega arith
+not-zero ListShort e = omega arith
+not-zero Coordinate e = omega arith
+not-zero BadRecord e = omega arith
+not-zero RunLimit e = omega arith
+not-zero NoRaise e = omega arith
+not-zero RoomShort e = omega arith
+not-zero NoPage e = omega arith
+not-zero Measurement e = omega arith
+not-zero RankSizes e = omega arith
+not-zero Spent e = omega arith
+not-zero Endurance e = omega arith
+not-zero Seed e = omega arith
 
 -- a number that is not 0 picks the zeros
 pub picked_zeros : {A : Type 0} (k : ℕ) (result zeros : A) → (k ≡ 0 → ⊥) → if_done k result zeros ≡ zeros
@@ -115,7 +124,7 @@ module _ (later : List (Bool × Refusal)) where
   all_held ((false, r) ∷ first) e = absurd (not-zero r e)
 
   -- the outcome of the first checks, passed on as that of all
-  pub outcome_first : (first : List (Bool × Refusal)) {o : Outcome} {r : Refusal} → outcome_number o ≡ number_of first → o ≡ Refused r → outcome_number o ≡ number_of (first ++ later)
+  pub outcome_first : (first : List (Bool × Refusal)) {A : Type 0} {o : Result A Refusal} {r : Refusal} → outcome_number o ≡ number_of first → o ≡ Err r → outcome_number o ≡ number_of (first ++ later)
   outcome_first first {r = r} e d = ap outcome_number d ∙ sym (refused_first first r (sym e ∙ ap outcome_number d))
 
 -- ---- answers
@@ -130,10 +139,10 @@ module _ {A : Type 0} (checks : List (Bool × Refusal)) (result zeros : A) where
   told_refused r e = rw (e, refused_zeros r result zeros)
 
   -- an outcome of the same checks, passed on
-  pub passed_on : (o : Outcome) → outcome_number o ≡ number_of checks → (r : Refusal) → o ≡ Refused r → record { number = outcome_number o; value = zeros } ≡ answer checks result zeros
+  pub passed_on : {B : Type 0} (o : Result B Refusal) → outcome_number o ≡ number_of checks → (r : Refusal) → o ≡ Err r → record { number = outcome_number o; value = zeros } ≡ answer checks result zeros
   passed_on o e r d = rw d (told_refused r (sym e ∙ ap outcome_number d))
 
-pub accepted : {o : Outcome} {k : ℕ} → outcome_number o ≡ k → o ≡ Done → k ≡ 0
+pub accepted : {A : Type 0} {o : Result A Refusal} {x : A} {k : ℕ} → outcome_number o ≡ k → o ≡ Ok x → k ≡ 0
 accepted e d = sym e ∙ ap outcome_number d
 
 -- ---- the size

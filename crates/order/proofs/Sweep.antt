@@ -29,6 +29,9 @@ pub record Turn (S : Type 0) (xs : List ℕ) (i x : ℕ) : Type 0 where
   pub more : 0 < i
   pub at : x ≡ get_or xs (i - 1) 0
 
+pub turn_at : {S : Type 0} {xs : List ℕ} {i x : ℕ} → S → 0 < i → x ≡ get_or xs (i - 1) 0 → Turn S xs i x
+turn_at s m e = record { state = s; more = m; at = e }
+
 -- the same turn by what S tells
 pub turn_by : {S R : Type 0} {xs : List ℕ} {i x : ℕ} → (S → R) → Turn S xs i x → Turn R xs i x
 turn_by f t = record { state = f t.state; more = t.more; at = t.at }

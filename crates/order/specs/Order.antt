@@ -7,15 +7,14 @@
 --   pair_checks u v      the checks of two orders without a group: n is the first one's length
 --   order_record xs      the record of a list of cells
 --   no_order             the zeros beside a refusal
---   told_order           what an answer says: its number, and the order
+--   told_order           what an answer says: its number, and the order, or zeros
 --   order_of_cells        the answer to `order_of`
-use Rattle.std.specs.Prelude.{ℕ, Bool, ◌&&◌, List, [], ◌∷◌, ◌++◌, map, length, get_or, take, replicate}
+use Rattle.std.specs.Prelude.{ℕ, Bool, ◌&&◌, List, [], ◌∷◌, ◌++◌, map, length, get_or, take, replicate, Result}
 use Rattle.order.specs.declared.Cell.{Cell}
 use Rattle.order.specs.declared.Order.{Order}
-use Rattle.order.specs.declared.OrderAnswer.{OrderAnswer}
 use Rattle.order.specs.declared.Refusal.{Refusal}
 use Rattle.order.specs.declared.Refusal.TheVariants.{Size, NoOrder}
-use Rattle.order.specs.Refusals.{outcome_number, Told, answer, is_size}
+use Rattle.order.specs.Refusals.{Told, told, answer, is_size}
 use Rattle.order.specs.Cells.{is_order, is_listing, tabulate}
 
 unfoldable pub cell_numbers : Order → List ℕ
@@ -39,8 +38,8 @@ order_record xs = record { len = length xs; cells = tabulate 12 (λ k. record { 
 abbrev pub no_order : Order
 no_order = record { len = 0; cells = replicate 12 (record { 0 = 0 }) }
 
-abbrev pub told_order : OrderAnswer → Told Order
-told_order a = record { number = outcome_number a.outcome; value = a.order }
+abbrev pub told_order : Result Order Refusal → Told Order
+told_order a = told no_order a
 
 -- an order from a list of cell numbers of any length
 unfoldable pub order_of_cells : List ℕ → Told Order

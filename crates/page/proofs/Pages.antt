@@ -4,26 +4,27 @@ use Prim.Native.Nat.{ℕ, zero, suc, ◌+◌, ◌-◌, ◌≤◌, ◌<◌}
 use native.Mathlib.Omega.{arith}
 use native.Mathlib.Numerals.{add-one}
 use mathlib.Core.Path.{◌≡◌, refl, sym, ap, ◌∙◌}
-use mathlib.Core.Bool.{Bool, true, false, and-false}
+use mathlib.Core.Bool.{Bool, true, false}
 use mathlib.Core.List.{List, [], ◌∷◌}
 use lib.Dec.{leb, eqb}
-use lib.ListN.{length, get_or, set, replicate}
-use borrow.Author.Tests.{leb-true, le-leb, lt-leb, eq-eqb, ne_eqb}
+use lib.ListN.{length, get_or, set, take, replicate}
+use lib.Seq.{get_or-take}
+use borrow.Author.Tests.{leb-true, le-leb}
+use Rattle.std.specs.List.{list_all}
+use Rattle.std.proofs.lemmas.List.Folds.{list_all_more}
 use Rattle.order.specs.declared.Refusal.{Refusal}
 use Rattle.order.specs.declared.Refusal.TheVariants.{NoPage}
-use Rattle.order.specs.declared.Outcome.{Outcome}
-use Rattle.order.specs.Refusals.{refusal_number, outcome_number, Told}
+use Rattle.order.specs.Refusals.{refusal_number, Told}
 use Rattle.order.proofs.Cells.{both}
 use Rattle.order.proofs.Refusals.{not-zero}
-use Rattle.code.specs.Symbols.{Reading}
+use Rattle.code.specs.Symbols.{Reading, no_reading}
 use Rattle.group.specs.declared.Group.{Group}
-use Rattle.engine.specs.declared.ReadAnswer.{ReadAnswer}
-use Rattle.engine.specs.declared.ReadAnswer.TheVariants as read
-use Rattle.engine.specs.ReadStore.{read_of, told_read}
+use Rattle.group.specs.Record.{no_group}
+use Rattle.engine.specs.ReadStore.{read_of}
 use Rattle.page.specs.declared.Page.{Page}
 use Rattle.page.specs.Groups.{all_of, put_each, first_refusing}
 use Rattle.page.specs.Pages.{group_at, like_first, is_page, page_answer, number_read, symbol_read, symbols_of, unread, read_page_of}
-use Rattle.page.proofs.Groups.{all_but, none_next, first_at}
+use Rattle.page.proofs.Groups.{none_next, first_at}
 
 -- ---- elements
 
@@ -59,53 +60,21 @@ module _ {A : Type 0} (b : Bool) (n : ℕ) (number : ℕ → ℕ) (result : A) (
 
 -- ---- whether a record is a page
 
--- the first k groups have the n of group 1
-pub record LikeTo (p : Page) (k : ℕ) : Type 0 where
-  pub long : length p.groups ≡ 8
-  pub least : 1 ≤ p.count
-  pub most : p.count ≤ 8
-  pub within : k ≤ p.count
-  pub like : all_of k (like_first p) ≡ true
+-- the groups are tested in a row
+like_all : (p : Page) (k : ℕ) → k ≤ length p.groups → list_all (λ (g : Group). eqb g.n (group_at p 1).n) (take k p.groups) ≡ all_of k (like_first p)
+unfolding all_of like_first
+like_all p zero l = refl
+like_all p (suc k) l =
+    let within : k < length p.groups = omega arith in
+    ap (λ (j : ℕ). list_all (λ (g : Group). eqb g.n (group_at p 1).n) (take j p.groups)) (sym (add-one k))
+    ∙ list_all_more (λ (g : Group). eqb g.n (group_at p 1).n) p.groups k no_group within
+    ∙ rw (like_all p k (omega arith), group_at_lem p k no_group within)
 
-pub page_low : (p : Page) → p.count < 1 → false ≡ is_page p
+pub page_like : (p : Page) (d : Group) → length p.groups ≡ 8 → 1 ≤ p.count → p.count ≤ 8
+    → list_all (λ (g : Group). eqb g.n (get_or p.groups 0 d).n) (take p.count p.groups) ≡ is_page p
 unfolding is_page
-page_low p l = rw (lt-leb 1 p.count l)
-
-pub page_high : (p : Page) → 8 < p.count → false ≡ is_page p
-unfolding is_page
-page_high p l = rw (lt-leb p.count 8 l, and-false (leb 1 p.count))
-
-pub like_start : {p : Page} → length p.groups ≡ 8 → 1 ≤ p.count → p.count ≤ 8 → LikeTo p 0
-unfolding all_of
-like_start w l m = record { long = w; least = l; most = m; within = omega arith; like = refl }
-
-module _ {p : Page} {k : ℕ} (h : LikeTo p k) where
-  module _ (d : Group) (l : k < p.count) where
-    like_test : like_first p (suc k) ≡ eqb (get_or p.groups k d).n (get_or p.groups 0 d).n
-    unfolding like_first
-    like_test = rw (group_at_lem p k d (omega (arith, h.long, h.most)), group_at_lem p 0 d (omega (arith, h.long)))
-
-    pub like_more : (get_or p.groups k d).n ≡ (get_or p.groups 0 d).n → LikeTo p (k + 1)
-    unfolding all_of
-    like_more e =
-        record {
-          long = h.long;
-          least = h.least;
-          most = h.most;
-          within = omega arith;
-          like = rw (add-one k, h.like, like_test) (eq-eqb _ _ e);
-        }
-
-    pub like_not : ((get_or p.groups k d).n ≡ (get_or p.groups 0 d).n → ⊥) → false ≡ is_page p
-    unfolding is_page
-    like_not e =
-        rw (all_but (like_first p) p.count k l (like_test ∙ ne_eqb _ _ e), and-false (leb p.count 8), and-false (leb 1 p.count))
-
-  pub like_end : p.count ≤ k → true ≡ is_page p
-  unfolding is_page
-  like_end m =
-      let e : k ≡ p.count = omega (arith, h.within) in
-      rw (le-leb 1 p.count h.least, le-leb p.count 8 h.most) (sym (rw e at h.like))
+page_like p d w l m =
+    rw (group_at_lem p 0 d (omega (arith, w)), le-leb 1 p.count l, le-leb p.count 8 m) (like_all p p.count (omega (arith, w)))
 
 pub page_most : (p : Page) → is_page p ≡ true → p.count ≤ 8
 unfolding is_page
@@ -127,33 +96,35 @@ unfolding first_refusing put_each
 read_start {p} w e = record { is_page_lem = e; long = w; most = page_most p e; within = omega arith; none = refl; held = refl }
 
 module _ {p : Page} {symbols : List ℕ} {k : ℕ} (h : ReadTo p symbols k) where
-  module _ (l : k < p.count) (a : ReadAnswer) (d : Group) (e : told_read a ≡ read_of (get_or p.groups k d)) where
-    read_same : told_read a ≡ read_of (group_at p (suc k))
-    read_same = e ∙ ap read_of (group_at_lem p k d (omega (arith, h.long, h.most)))
+  module _ (l : k < p.count) (d : Group) where
+    -- the group that is read next
+    read_same : read_of (get_or (take p.count p.groups) k d) ≡ read_of (group_at p (suc k))
+    read_same =
+        let within : k < length p.groups = omega (arith, h.long, h.most) in
+        ap read_of (get_or-take p.count p.groups k d l ∙ group_at_lem p k d within)
 
-    read_number : number_read p (suc k) ≡ (told_read a).number
-    unfolding number_read
-    read_number = sym (ap (λ (t : Told Reading). t.number) read_same)
-
-    pub read_more : {s : ℕ} {v : _} → a ≡ read.Read s v → ReadTo p (set symbols k s) (k + 1)
-    unfolding put_each symbol_read
-    read_more {s} o =
-        let symbol : s ≡ (read_of (group_at p (suc k))).value.symbol = ap (λ (t : Told Reading). t.value.symbol) (rw o at read_same) in
+    pub read_more : {a : Reading} → record { number = 0; value = a } ≡ read_of (get_or (take p.count p.groups) k d) → ReadTo p (set symbols k a.symbol) (k + 1)
+    unfolding put_each number_read symbol_read
+    read_more {a} e =
+        let read : record { number = 0; value = a } ≡ read_of (group_at p (suc k)) = e ∙ read_same in
+        let number : number_read p (suc k) ≡ 0 = sym (ap (λ (t : Told Reading). t.number) read) in
+        let symbol : a.symbol ≡ (read_of (group_at p (suc k))).value.symbol = ap (λ (t : Told Reading). t.value.symbol) read in
         record {
           is_page_lem = h.is_page_lem;
           long = h.long;
           most = h.most;
           within = omega arith;
-          none = rw (add-one k) (none_next (number_read p) k h.none (read_number ∙ rw o));
+          none = rw (add-one k) (none_next (number_read p) k h.none number);
           held = rw (add-one k, h.held, symbol);
         }
 
-    pub read_refused_at : {r : Refusal} (o : Outcome) → a ≡ read.Refused r → outcome_number o ≡ (told_read a).number → (named : ℕ) → named ≡ k + 1
-        → record { number = outcome_number o; value = unread named } ≡ read_page_of p
-    unfolding read_page_of
-    read_refused_at {r} o is n named one =
-        rw (n, ← read_number, one, add-one k)
-        (page_refused (is_page p) p.count (number_read p) (symbols_of p) unread h.is_page_lem k l h.none (λ z. not-zero r (sym (read_number ∙ rw is) ∙ z)))
+    pub read_refused_at : (r : Refusal) → record { number = refusal_number r; value = no_reading } ≡ read_of (get_or (take p.count p.groups) k d) → (named : ℕ) → named ≡ k + 1
+        → record { number = refusal_number r; value = unread named } ≡ read_page_of p
+    unfolding read_page_of number_read
+    read_refused_at r e named one =
+        let number : number_read p (suc k) ≡ refusal_number r = ap (λ (t : Told Reading). t.number) (sym (e ∙ read_same)) in
+        rw (← number, one, add-one k)
+        (page_refused (is_page p) p.count (number_read p) (symbols_of p) unread h.is_page_lem k l h.none (λ z. not-zero r (sym number ∙ z)))
 
   pub read_end : p.count ≤ k → record { number = 0; value = record { group = 0; count = p.count; symbols = symbols } } ≡ read_page_of p
   unfolding read_page_of

@@ -7,18 +7,19 @@
 --                       number 0; else the number of the first that has not, k, and z k
 --   number_read, symbol_read    what the read of group k answers: the number, the symbol
 --   ReadSymbols         what the answer to a page read carries: the group that it names, how many symbols, the symbols in eight places
---   told_page_read a      what that answer says: its number, and what it carries
 --   symbols_of p         what an accepted page read carries: the symbol of each group
 --   unread k            what one that is refused carries: the group k that it names, and zeros
+--   told_page_read a      what that answer says: its number, and what it carries
 --   read_page_of          the answer to `read_page`
-use Rattle.std.specs.Prelude.{ℕ, ◌-◌, Bool, cond, ◌&&◌, List, leb, eqb, get_or, replicate}
+use Rattle.std.specs.Prelude.{ℕ, ◌-◌, Bool, cond, ◌&&◌, List, Result, Ok, Err, leb, eqb, get_or, replicate}
 use Rattle.order.specs.declared.Refusal.TheVariants.{NoPage}
-use Rattle.order.specs.Refusals.{refusal_number, outcome_number, if_done, Told}
+use Rattle.order.specs.Refusals.{refusal_number, if_done, Told}
 use Rattle.group.specs.declared.Group.{Group}
 use Rattle.group.specs.Record.{no_group}
 use Rattle.engine.specs.ReadStore.{read_of}
 use Rattle.page.specs.declared.Page.{Page}
 use Rattle.page.specs.declared.PageRead.{PageRead}
+use Rattle.page.specs.declared.PageRefusal.{PageRefusal}
 use Rattle.page.specs.Groups.{all_of, put_each, first_refusing}
 
 -- ---- pages
@@ -50,14 +51,15 @@ pub record ReadSymbols : Type 0 where
   pub count : ℕ
   pub symbols : List ℕ
 
-abbrev pub told_page_read : PageRead → Told ReadSymbols
-told_page_read a = record { number = outcome_number a.outcome; value = record { group = a.group; count = a.count; symbols = a.symbols } }
-
 abbrev pub symbols_of : Page → ReadSymbols
 symbols_of p = record { group = 0; count = p.count; symbols = put_each p.count (symbol_read p) (replicate 8 0) }
 
 abbrev pub unread : ℕ → ReadSymbols
 unread k = record { group = k; count = 0; symbols = replicate 8 0 }
+
+abbrev pub told_page_read : Result PageRead PageRefusal → Told ReadSymbols
+told_page_read (Ok read) = record { number = 0; value = record { group = 0; count = read.count; symbols = read.symbols } }
+told_page_read (Err refused) = record { number = refusal_number refused.refusal; value = unread refused.group }
 
 unfoldable pub read_page_of : Page → Told ReadSymbols
 read_page_of p = page_answer (is_page p) p.count (number_read p) (symbols_of p) unread

@@ -2,109 +2,79 @@
 // takes any record and answers it by one equation with a definition of specs/.
 #![tactic(auto)]
 
-ghost use Rattle.std.specs.Prelude.{◌≡◌, true};
-ghost use Rattle.order.specs.Refusals.{outcome_number};
-ghost use Rattle.engine.specs.ReadStore.{told_read};
-ghost use Rattle.page.specs.Pages.{is_page, told_page_read, unread, read_page_of};
+ghost use Rattle.std.specs.Prelude.{◌≡◌, ◌==◌, true};
+ghost use Rattle.std.specs.List.{list_all};
+ghost use Rattle.page.specs.Pages.{is_page, told_page_read, read_page_of};
 
-use engine::ReadAnswer;
 use group::Group;
-use order::{Outcome, Refusal};
+use order::Refusal;
 
-// The groups 1 to count, group k at index k - 1. What stands after them is not looked at, and comes back as it was.
-#[derive(Clone, Copy)]
+// The groups 1 to count, group k at index k - 1. What stands after them is not looked at, and comes back as it was. Fixed
+// places with a count: see `order::Order`.
+#[derive(Clone, Copy, PartialEq, Eq)]
 pub struct Page {
     pub count: usize,
     pub groups: [Group; 8],
 }
 
-// The answer of a page read: how many symbols, and that of group k at index k - 1; zeros where it is refused. Its group is the first that refuses, 0 where
-// none does or it is no page.
-#[derive(Clone, Copy)]
+// What a page read found: how many symbols, and that of group k at index k - 1, with zeros after them. Fixed places
+// with a count: see `order::Order`.
+#[derive(Clone, Copy, PartialEq, Eq)]
 pub struct PageRead {
-    pub outcome: Outcome,
-    pub group: usize,
     pub count: usize,
     pub symbols: [u32; 8],
 }
 
+// The refusal of a page call, and the first group that refuses: 0 where it is no page, as document 02 has it and `unread`, `none_stored` tell.
+#[derive(Clone, Copy, PartialEq, Eq)]
+pub struct PageRefusal {
+    pub refusal: Refusal,
+    pub group: usize,
+}
+
 // Whether it is 1 to 8 records with the same n. Whether each of them is a group is asked by the calls, group by group.
+#[tactic(auto, unfolding(crate::specs::Pages::is_page))]
 pub fn is_page(page: Page) -> bool
     ensures { result ≡ is_page page }
 {
-    if page.count < 1 {
-        return false;
-    }
-    if 8 < page.count {
-        return false;
-    }
-    let first = page.groups[0].n;
-    let mut i = 0;
-    while i < page.count {
-        if page.groups[i].n != first {
-            return false;
-        }
-        i += 1;
-    }
-    true
+    (1..=8).contains(&page.count) && have_n(&page.groups[..page.count], page.groups[0].n)
+}
+
+// Whether each of these records has n cells.
+fn have_n(groups: &[Group], n: usize) -> bool
+    ensures { result ≡ list_all (λ g. g.n == n) groups.now }
+{
+    groups.iter().all(|g| g.n == n)
 }
 
 // The symbols of all groups, or the first refusal and its group.
-pub fn read_page(page: Page) -> PageRead
+pub fn read_page(page: Page) -> Result<PageRead, PageRefusal>
     ensures { told_page_read result ≡ read_page_of page }
 {
     if !is_page(page) {
-        return read_refused(Outcome::Refused(Refusal::NoPage), 0);
+        return Err(PageRefusal {
+            refusal: Refusal::NoPage,
+            group: 0,
+        });
     }
     read_each(page)
 }
 
-// The groups are read in turn, up to the first that refuses.
-fn read_each(page: Page) -> PageRead
+// The groups are read in turn, up to the first that refuses. One loop here and one in `page_store::store_each`: the calls answer different types.
+fn read_each(page: Page) -> Result<PageRead, PageRefusal>
     requires { is_page page ≡ true }
     ensures { told_page_read result ≡ read_page_of page }
 {
-    let count = page.count;
     let mut symbols = [0u32; 8];
-    let mut i = 0;
-    while i < count {
-        let g = page.groups[i];
-        let answer = engine::read(g);
-        let ReadAnswer::Read { symbol, verdict: _ } = answer else {
-            return read_refused(outcome_of(answer), i + 1);
-        };
-        symbols[i] = symbol;
-        i += 1;
+    for (i, g) in page.groups[..page.count].iter().enumerate() {
+        let decoded = engine::read(*g).map_err(|refusal| PageRefusal {
+            refusal,
+            group: i + 1,
+        })?;
+        symbols[i] = decoded.symbol;
     }
-    PageRead {
-        outcome: Outcome::Done,
-        group: 0,
-        count,
+    Ok(PageRead {
+        count: page.count,
         symbols,
-    }
-}
-
-// The outcome of a read.
-fn outcome_of(answer: ReadAnswer) -> Outcome
-    ensures { outcome_number result ≡ (told_read answer).number }
-{
-    match answer {
-        ReadAnswer::Refused(refusal) => Outcome::Refused(refusal),
-        ReadAnswer::Read {
-            symbol: _,
-            verdict: _,
-        } => Outcome::Done,
-    }
-}
-
-// The answer of a page read that is refused, and names this group, or 0.
-fn read_refused(outcome: Outcome, group: usize) -> PageRead
-    ensures { told_page_read result ≡ record { number = outcome_number outcome; value = unread group } }
-{
-    PageRead {
-        outcome,
-        group,
-        count: 0,
-        symbols: [0u32; 8],
-    }
+    })
 }

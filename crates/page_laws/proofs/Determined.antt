@@ -11,14 +11,13 @@ use mathlib.Core.List.{List, [], ◌∷◌, ◌++◌}
 use lib.Dec.{leb, eqb}
 use Rattle.order.specs.Refusals.{if_done, Told}
 use Rattle.group.specs.declared.Group.{Group}
-use Rattle.engine.specs.ReadStore.{store_of}
 use Rattle.plain_machine.specs.declared.Call.{Call}
 use Rattle.plain_machine.specs.Machine.{apply_of}
 use Rattle.rivals.specs.Rivals.{is_worn_or_spent, after, pulses_of}
 use Rattle.page.specs.declared.Page.{Page}
 use Rattle.page.specs.Groups.{all_of}
 use Rattle.page.specs.Pages.{group_at, like_first, is_page}
-use Rattle.page_store.specs.StoreAnswer.{symbol_at, takes, number_stored, AfterStore, store_page_of}
+use Rattle.page_store.specs.StoreAnswer.{takes, number_stored, AfterStore, store_page_of}
 use Rattle.page_laws.specs.PageLists.{PageCall, on_group, store_page, read_page, PageMachine, among, stands, HoldsGroups, page_step, own_call, after_calls, pulses_of_calls, calls_of, PageDemand3, MeetsPageDemand3}
 use Rattle.page_laws.proofs.Groups.{among_below, of_among, all_same, total_same, FirstAt, first_not}
 use Rattle.page_laws.proofs.Steps.{Answered, no_page, done, refused, answered}
@@ -52,7 +51,7 @@ module _ {p q : Page} (s : SameGroups p q) where
 
     number_same : (k : ℕ) → among q.count k ≡ true → number_stored p ss k ≡ number_stored q ss k
     unfolding number_stored
-    number_same k e = ap (λ (g : Group). (store_of g (symbol_at ss k)).number) (s.groups k e)
+    number_same k e = grind arith
 
 module _ (store : PageMachine) (meets : MeetsPageDemand3 store) where
   -- ---- the next page store

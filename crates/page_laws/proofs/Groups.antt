@@ -6,7 +6,6 @@ use mathlib.Core.Path.{◌≡◌, refl, ◌∙◌}
 use mathlib.Core.Logic.{◌≢◌, ◌⊎◌, inl, inr, ⊎_elim}
 use mathlib.Core.Bool.{Bool, true, false≢true}
 use mathlib.Core.List.{List}
-use lib.Dec.{leb}
 use lib.ListN.{length, get_or, length-set}
 use lib.Seq.{get_or-set_same, get_or-set_other}
 use borrow.Author.Tests.{leb-true, le-leb}
@@ -18,7 +17,7 @@ use Rattle.page_laws.specs.PageLists.{among}
 -- ---- a number from 1 to n
 
 pub among_true : (n i : ℕ) → among n (suc i) ≡ true → i < n
-among_true n i e = leb-true (suc i) n (both (leb 1 (suc i)) (leb (suc i) n) e).1
+among_true n i e = grind (arith, leb-true, both)
 
 pub among_below : (n i : ℕ) → i < n → among n (suc i) ≡ true
 among_below n i l = rw (le-leb 1 (suc i) (omega arith), le-leb (suc i) n l)

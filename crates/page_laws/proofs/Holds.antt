@@ -11,9 +11,7 @@ use mathlib.Core.List.{List}
 use lib.Dec.{leb}
 use lib.ListN.{replicate}
 use borrow.Author.Tests.{leb-true}
-use Rattle.order.specs.Refusals.{Told}
 use Rattle.order.proofs.Cells.{both}
-use Rattle.code.specs.Symbols.{Reading}
 use Rattle.group.specs.Record.{IsGroup}
 use Rattle.engine.specs.ReadStore.{read_of, store_of}
 use Rattle.engine.proofs.Holds.{store_holds, store_reads}
@@ -59,9 +57,7 @@ module _ (p : Page) (h : HoldsGroups p) (ss : List ℕ) (z : (store_page_of p ss
       rw (group_by_store p (room p h) ss i l) (store_holds (group_at p (suc i)) (symbol_at ss (suc i)) (group_held i l) (accepted i l)).1
 
   reading : (i : ℕ) → i < p.count → ((read_of (group_at stored (suc i))).number ≡ 0) × ((read_of (group_at stored (suc i))).value.symbol ≡ symbol_at ss (suc i))
-  reading i l =
-      let e = store_reads (group_at p (suc i)) (symbol_at ss (suc i)) (group_held i l) (accepted i l) in
-      rw (group_by_store p (room p h) ss i l) (ap (λ (t : Told Reading). t.number) e, ap (λ (t : Told Reading). t.value.symbol) e)
+  reading i l = grind (arith, store_reads, group_held, accepted, group_by_store, room)
 
   stored_page : is_page stored ≡ true
   unfolding is_page like_first

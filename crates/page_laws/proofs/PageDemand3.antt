@@ -47,7 +47,7 @@ only_last_stuck true false c f l e = absurd (false≢true e)
 only_last_stuck false b c f l e = absurd (false≢true e)
 
 stuck_passed : (g : Group) (s : ℕ) → is_worn_or_spent (apply_of g (store_call s)).number ≡ true → number_of (earlier_checks g (store_call s)) ≡ 0
-stuck_passed g s w = only_last_stuck _ _ _ _ _ (sym (ap is_worn_or_spent (apply_number g (store_call s))) ∙ w)
+stuck_passed g s w = grind (arith, only_last_stuck, apply_number)
 
 -- ---- lists of calls on a page
 
@@ -162,18 +162,12 @@ module _ (p : Page) (h : HoldsGroups p) (cs : List PageCall) where
     refused_first : (k : ℕ) → takes now ss ≡ true → among p.count k ≡ true → number_stored now ss k ≢ 0 → Before k
         → (told.number ≡ number_stored now ss k) × (told.value.group ≡ k)
     refused_first zero t m r b = absurd (false≢true m)
-    refused_first (suc i) t m r b = rw (first_refused now ss t i (first i (among_true p.count i m) b r)) (refl, refl)
+    refused_first (suc i) t m r b = grind (arith, first_refused, first, among_true)
 
     named_stuck : is_worn_or_spent told.number ≡ true
         → let k = told.value.group in
         (among p.count k ≡ true) × (own k ≡ call k ∷ []) × ((apply_of (group_at now k) (call k)).number ≡ told.number) × ((j : ℕ) → j ≢ k → own j ≡ [])
-    named_stuck w =
-        let t = stuck_store now ss w in (
-          ap (λ (n : ℕ). among n told.value.group) (sym (count_after p cs)) ∙ t.0,
-          own_stands now ss told.value.group (stuck_stands now ss w),
-          t.1,
-          λ j d. own_not now ss j (other_not now ss w j d),
-        )
+    named_stuck w = grind (arith, stuck_store, count_after, own_stands, stuck_stands, own_not, other_not)
 
     no_list : told.number ≢ 0 → is_worn_or_spent told.number ≡ false → (k : ℕ) → own k ≡ []
     no_list r w k = own_not now ss k (not_stands now ss r w k)
@@ -208,10 +202,7 @@ module _ (p : Page) (h : HoldsGroups p) (cs : List PageCall) where
 
     stuck_where : (k : ℕ) → StuckAt k → (is_worn_or_spent told.number ≡ true) × (told.value.group ≡ k)
     stuck_where zero (t, m, b, e, shut) = absurd (false≢true m)
-    stuck_where (suc i) (t, m, b, e, shut) =
-        let own : is_worn_or_spent (number_stored now ss (suc i)) ≡ true = ap is_worn_or_spent (sym (store_call_number now ss (suc i))) ∙ (stuck_shut i (among_true p.count i m) e).1 shut in
-        let r = refused_first (suc i) t m (λ z. false≢true (rw z at own)) b in
-        (ap is_worn_or_spent r.0 ∙ own, r.1)
+    stuck_where (suc i) (t, m, b, e, shut) = grind (arith, store_call_number, stuck_shut, among_true, refused_first)
 
   pub page_claim : PageDemand3 store_page_of p cs
   page_claim =

@@ -8,8 +8,8 @@ use mathlib.Core.Path.{◌≡◌, refl, sym, ap, ◌∙◌}
 use mathlib.Core.Logic.{◌≢◌, ◌⊎◌, inl, inr, ⊎_elim}
 use mathlib.Core.Bool.{Bool, true, false, false≢true, cond}
 use mathlib.Core.List.{List, [], ◌∷◌}
-use lib.Dec.{leb, eqb}
-use lib.ListN.{length, get_or, length-set, get_or-eq_default}
+use lib.Dec.{eqb}
+use lib.ListN.{length, length-set, get_or-eq_default}
 use lib.Seq.{get_or-set_same, get_or-set_other}
 use borrow.Author.Tests.{leb-true, eqb-true, eq-eqb, ne_eqb}
 use Rattle.order.specs.declared.Refusal.TheVariants.{NoPage}
@@ -21,12 +21,12 @@ use Rattle.group.specs.Record.{no_group, IsGroup}
 use Rattle.plain_machine.specs.declared.Kind.{Kind}
 use Rattle.plain_machine.specs.declared.Call.{Call}
 use Rattle.engine.specs.ReadStore.{store_of}
-use Rattle.engine.specs.Scrub.{Step, quiet}
+use Rattle.engine.specs.Scrub.{quiet}
 use Rattle.plain_machine.specs.Machine.{apply_of}
 use Rattle.plain_machine.proofs.Machine.{accept, apply_number, apply_value}
 use Rattle.rivals.specs.Rivals.{Rival, Moves, latest, is_worn_or_spent, after, pulses_of, Course, rest, next}
 use Rattle.page.specs.declared.Page.{Page}
-use Rattle.page.specs.Groups.{total, put_each}
+use Rattle.page.specs.Groups.{total}
 use Rattle.page.specs.Pages.{group_at}
 use Rattle.page_store.specs.StoreAnswer.{symbol_at, takes, AfterStore, number_stored, group_stored, pulses_stored, all_stored, none_stored, store_page_of}
 use Rattle.page_store.proofs.Storing.{store_not}
@@ -61,7 +61,7 @@ module _ (p : Page) (ss : List ℕ) where
   pub first_refused : takes p ss ≡ true → (i : ℕ) → FirstAt (number_stored p ss) p.count i
       → store_page_of p ss ≡ record { number = number_stored p ss (suc i); value = none_stored p (suc i) }
   unfolding store_page_of
-  first_refused e i a = sym (page_refused (takes p ss) p.count (number_stored p ss) (all_stored p ss) (none_stored p) e i a.below a.before a.refuses)
+  first_refused e i a = grind (arith, page_refused)
 
   pub answered : Answered
   unfolding store_page_of
@@ -82,7 +82,7 @@ module _ (p : Page) (ss : List ℕ) where
 
 -- a refused call leaves the group and carries no pulses
 apply_refused : (g : Group) (c : Call) → (apply_of g c).number ≢ 0 → (apply_of g c).value ≡ quiet g
-apply_refused g c r = apply_value g c ∙ picked_zeros _ (accept g c) (quiet g) (λ z. r (apply_number g c ∙ z))
+apply_refused g c r = grind (arith, apply_value, picked_zeros, accept, apply_number)
 
 -- ---- the page has as many groups after a call
 
@@ -166,9 +166,7 @@ module _ (p : Page) (ss : List ℕ) where
   -- that is the number of the store, as a call on the group
   pub stuck_store : is_worn_or_spent told.number ≡ true
       → let k = told.value.group in (among p.count k ≡ true) × ((apply_of (group_at p k) (store_call (symbol_at ss k))).number ≡ told.number)
-  stuck_store w =
-      let (i, t) = stuck_first w in
-      rw t.named (among_below p.count i t.first.below, store_call_number p ss (suc i) ∙ sym t.number)
+  stuck_store w = grind (arith, stuck_first, among_below, store_call_number)
 
   -- ---- in which lists it stands
 
@@ -182,11 +180,11 @@ module _ (p : Page) (ss : List ℕ) where
 
   pub stuck_stands : is_worn_or_spent told.number ≡ true → stands told told.value.group ≡ true
   unfolding stands
-  stuck_stands w = picked_zeros told.number true _ (stuck_refused told.number w) ∙ rw w (eq-eqb told.value.group told.value.group refl)
+  stuck_stands w = grind (arith, picked_zeros, stuck_refused, eq-eqb)
 
   pub other_not : is_worn_or_spent told.number ≡ true → (j : ℕ) → j ≢ told.value.group → stands told j ≡ false
   unfolding stands
-  other_not w j d = picked_zeros told.number true _ (stuck_refused told.number w) ∙ rw w (ne_eqb told.value.group j (λ e. d (sym e)))
+  other_not w j d = grind (arith, picked_zeros, stuck_refused, ne_eqb)
 
   pub not_stands : told.number ≢ 0 → is_worn_or_spent told.number ≡ false → (k : ℕ) → stands told k ≡ false
   unfolding stands
@@ -198,21 +196,17 @@ module _ (p : Page) (ss : List ℕ) where
 
   stands_as_stuck : (k : ℕ) → told.number ≢ 0 → stands told k ≡ true → (is_worn_or_spent told.number ≡ true) × (told.value.group ≡ k)
   unfolding stands
-  stands_as_stuck k r e =
-      let t = both (is_worn_or_spent told.number) (eqb told.value.group k) (sym (picked_zeros told.number true _ r) ∙ e) in
-      (t.0, eqb-true told.value.group k t.1)
+  stands_as_stuck k r e = grind (arith, both, picked_zeros, eqb-true)
 
   -- its call in the list of a group, if it has one, is refused
   own_refused : (k : ℕ) → told.number ≢ 0 → stands told k ≡ true → (apply_of (group_at p k) (store_call (symbol_at ss k))).number ≢ 0
-  own_refused k r e z =
-      let t = stands_as_stuck k r e in
-      r (sym (rw t.1 at (stuck_store t.0).1) ∙ z)
+  own_refused k r e z = grind (arith, stands_as_stuck, stuck_store)
 
 -- a list of one call or none, where the call would be refused
 one_refused : (g : Group) (c : Call) (b : Bool) → (b ≡ true → (apply_of g c).number ≢ 0)
     → (after apply_of g (cond b (c ∷ []) []) ≡ g) × (pulses_of apply_of g (cond b (c ∷ []) []) ≡ 0)
 unfolding after pulses_of
-one_refused g c true r = let e = apply_refused g c (r refl) in (ap (λ (s : Step). s.group) e, rw e)
+one_refused g c true r = grind (arith, apply_refused)
 one_refused g c false r = (refl, refl)
 
 -- and a rival that has such a list stays where it stands
@@ -230,7 +224,7 @@ one_stays g q c false r rs z rest = refl
 pub rival_stays : (p : Page) (ss : List ℕ) → (store_page_of p ss).number ≢ 0 → (k : ℕ) (q : Group) (r : Rival) (rs : List Rival)
     → Course apply_of (group_at p k) q r (own_call store_page_of k p (store_page ss)) rs → latest r rs ≡ r
 unfolding own_call
-rival_stays p ss z k q r rs x = one_stays (group_at p k) q (store_call (symbol_at ss k)) _ r rs (own_refused p ss k z) x
+rival_stays p ss z k q r rs x = grind (arith, one_stays, own_refused)
 
 pub no_calls : (g : Group) → pulses_of apply_of g [] ≡ 0
 unfolding pulses_of
@@ -253,16 +247,12 @@ module _ (p : Page) where
       where
         other : (suc i ≡ j → ⊥) → (b : Bool) → among p.count j ≡ b
             → group_at (cond b (put_group p j (apply_of (group_at p j) c).value.group) p) (suc i) ≡ group_at p (suc i)
-        other d true e =
-            let low = leb-true 1 j (both (leb 1 j) (leb j p.count) e).0 in
-            get_or-set_other p.groups (j - 1) (suc i - 1) _ no_group (λ q. d (omega (arith, low)))
+        other d true e = grind (arith, leb-true, both, get_or-set_other)
         other d false e = refl
 
     pub group_by_store : (ss : List ℕ) (i : ℕ) → i < p.count → group_at (all_stored p ss).page (suc i) ≡ (store_of (group_at p (suc i)) (symbol_at ss (suc i))).value.group
     unfolding group_stored
-    group_by_store ss i l =
-        ap (λ (k : ℕ). get_or (put_each p.count (group_stored p ss) p.groups) k no_group) (back_one i)
-        ∙ put_at (group_stored p ss) p.groups no_group p.count i places l
+    group_by_store ss i l = grind (arith, back_one, put_at)
 
     pub group_by_call : (ss : List ℕ) (i : ℕ) → i < p.count
         → group_at (all_stored p ss).page (suc i) ≡ (apply_of (group_at p (suc i)) (store_call (symbol_at ss (suc i)))).value.group

@@ -8,7 +8,7 @@ use mathlib.Core.Bool.{Bool, true, false}
 use mathlib.Core.List.{List, [], ◌∷◌}
 use lib.ListN.{length, get_or, replicate, get_or-replicate}
 use borrow.Author.Tests.{le-leb, lt-ltb}
-use Rattle.order.specs.declared.Refusal.TheVariants.{NoCell, NoSymbol, Worn, CapUp, Spent}
+use Rattle.order.specs.declared.Refusal.TheVariants.{NoCell, Worn, CapUp, Spent}
 use Rattle.order.specs.Refusals.{number_of, Told, is_size}
 use Rattle.order.specs.Order.{no_order}
 use Rattle.order.proofs.Cells.{order_true, order_range}
@@ -27,7 +27,7 @@ use Rattle.group.proofs.Checks.{checked_size}
 use Rattle.group.specs.Record.{is_endurance, group_checks, IsGroup, opened, with_caps, erased}
 use Rattle.changes.specs.Changes.{wear_checks, wear_of, erase_of}
 use Rattle.push_up.specs.PushUp.{singles}
-use Rattle.push_up.specs.WriteAnswer.{Program, raised, fits, lasts, push_checks, pushed}
+use Rattle.push_up.specs.WriteAnswer.{raised, fits, lasts, push_checks, pushed}
 use Rattle.push_up.proofs.Orders.{order_target, Falling, shows_falling}
 use Rattle.push_up.proofs.Writes.{raised_shows}
 use Rattle.plain_machine.specs.declared.Kind.TheVariants.{Wear, Erase}
@@ -73,9 +73,7 @@ module _ (g : Group) (h : IsGroup g) (s : ℕ) where
 
   -- the caps and the endurance decide
   caps_decide : s < K g.n → (apply_of g (store_call s)).number ≡ number_of (push_checks g (singles word))
-  caps_decide below =
-      apply_number g (store_call s)
-      ∙ last_decide g (store_call s) refl (later_decide _ (group_checks g) h.passes ∙ check_holds NoSymbol [] (lt-ltb s (K g.n) below) ∙ all_hold)
+  caps_decide below = search (arith, apply_number, last_decide, later_decide, check_holds, lt-ltb, all_hold)
 
 not_so : (b : Bool) → (b ≡ true → ⊥) → b ≡ false
 not_so false f = refl
@@ -132,7 +130,7 @@ module _ (n e : ℕ) (size : is_size n ≡ true) (range : is_endurance e ≡ tru
   worn_is_group = rw wear_done at (apply_group new (wearing n s) new_group)
 
   cap_none : level worn_group.caps top_cell ≡ 0
-  cap_none = level_put new.caps top_cell 0 (omega (arith, top_cell_range, size_true n size, new_group.caps))
+  cap_none = grind (arith, level_put, top_cell_range, size_true, new_group)
 
   pub worn_number : s < K n → (apply_of worn_group (store_call s)).number ≡ 8
   unfolding fits
@@ -152,20 +150,18 @@ module _ (n e : ℕ) (size : is_size n ≡ true) (range : is_endurance e ≡ tru
     spent_group = erased (pushed true new target).group
 
     stored_group : (apply_of new (store_call s)).value.group ≡ (pushed true new target).group
-    stored_group = ap (λ (q : Program). q.group) (apply_pushed new (store_call s) refl stored_first)
+    stored_group = grind (arith, apply_pushed, stored_first)
 
     pushed_is_group : IsGroup (pushed true new target).group
     pushed_is_group = rw stored_group at (apply_group new (store_call s) new_group)
 
     erase_done : (apply_of (pushed true new target).group erasing).value.group ≡ spent_group
     unfolding apply_of erase_of
-    erase_done =
-        let g = (pushed true new target).group in
-        sym (ap (λ (t : Told Group). t.value) (told_done (group_checks g) (erased g) g pushed_is_group.passes))
+    erase_done = grind (arith, told_done, pushed_is_group)
 
     pub spent_reached : after apply_of new (store_call s ∷ erasing ∷ []) ≡ spent_group
     unfolding after
-    spent_reached = ap (λ (g : Group). (apply_of g erasing).value.group) stored_group ∙ erase_done
+    spent_reached = grind (arith, stored_group, erase_done)
 
     spent_is_group : IsGroup spent_group
     spent_is_group = rw erase_done at (apply_group (pushed true new target).group erasing pushed_is_group)
@@ -180,15 +176,7 @@ module _ (n e : ℕ) (size : is_size n ≡ true) (range : is_endurance e ≡ tru
     top_twice : level (tallied (tallied (replicate 12 0) (replicate 12 0) (raised new target)) (replicate 12 0) (raised new target)) top_cell
         ≡ level (raised new target) top_cell + level (raised new target) top_cell
     unfolding level
-    top_twice =
-        let zeros : List ℕ = replicate 12 0 in
-        let once = tallied zeros zeros (raised new target) in
-        let i = top_cell - 1 in
-        let inside : i < 12 = omega (arith, top_cell_range, size_true n size) in
-        let none : get_or zeros i 0 ≡ 0 = get_or-replicate 12 i 0 0 inside in
-        let first = tallied_level zeros zeros (raised new target) i inside inside (omega (arith, twelve)) in
-        let again = tallied_level once zeros (raised new target) i (omega (arith, length_tallied zeros zeros (raised new target))) inside (omega (arith, twelve)) in
-        omega (arith, none, first, again)
+    top_twice = grind (arith, top_cell_range, size_true, get_or-replicate, tallied_level, twelve, length_tallied)
 
     pub spent_number : e < (n - 1) + (n - 1) → (apply_of spent_group (store_call s)).number ≡ 19
     unfolding fits lasts pushed raised level

@@ -13,13 +13,12 @@ use mathlib.Core.List.{List, [], ◌∷◌, ◌++◌}
 use lib.Dec.{eqb}
 use lib.ListN.{length, replicate, get_or-replicate}
 use borrow.Author.Tests.{le-leb, eq-eqb, ne_eqb}
-use Rattle.order.specs.declared.Refusal.TheVariants.{Size, Endurance}
 use Rattle.order.specs.Refusals.{is_size}
 use Rattle.order.proofs.Refusals.{check_held}
 use Rattle.code.specs.Words.{K}
 use Rattle.group.specs.declared.Group.{Group}
-use Rattle.group.specs.Record.{is_endurance, opened, no_group}
-use Rattle.changes.specs.Changes.{open_checks, open_of}
+use Rattle.group.specs.Record.{is_endurance, opened}
+use Rattle.changes.specs.Changes.{open_of}
 use Rattle.group.proofs.Groups.{told_accepted}
 use Rattle.changes.proofs.Groups.{open_group}
 use Rattle.push_up.specs.WriteAnswer.{pushed}
@@ -29,7 +28,7 @@ use Rattle.rivals.specs.Rivals.{after}
 use Rattle.rivals.proofs.Valid.{first_store}
 use Rattle.page.specs.declared.Page.{Page}
 use Rattle.page.specs.Pages.{group_at, like_first, is_page}
-use Rattle.page_store.specs.StoreAnswer.{symbol_at, takes, number_stored, all_stored, none_stored, store_page_of}
+use Rattle.page_store.specs.StoreAnswer.{symbol_at, takes, number_stored, none_stored, store_page_of}
 use Rattle.page_store.proofs.Storing.{is_taken}
 use Rattle.page.proofs.Pages.{page_done}
 use Rattle.page_laws.specs.PageLists.{PageCall, on_group, among, store_call, HoldsGroups, OpenedPage, page_step, own_call, after_calls, calls_of}
@@ -44,34 +43,23 @@ opened_holds n e p o k m = rw (o.groups k m) (open_group n e o.opens)
 -- ---- a freshly opened page: of every n from 3 to 12, each endurance from 1 to 1,000,000, and each number of groups
 
 pub opened_page_of : (n e c : ℕ) → (open_of n e).number ≡ 0 → 1 ≤ c → c ≤ 8 → OpenedPage n e (record { count = c; groups = replicate 8 (open_of n e).value })
-opened_page_of n e c done l m =
-    let p : Page = record { count = c; groups = replicate 8 (open_of n e).value } in
-    record {
-      opens = done;
-      least = l;
-      most = m;
-      groups = of_among c (λ k. group_at p k ≡ (open_of n e).value) (λ i b. get_or-replicate 8 (suc i - 1) (open_of n e).value no_group (omega arith));
-    }
+opened_page_of n e c done l m = grind (arith, of_among, get_or-replicate)
 
 -- ---- the first page store goes through
 
 -- records with one n are a page
 like_all : (p : Page) → 1 ≤ p.count → p.count ≤ 8 → (n : ℕ) → ((i : ℕ) → i < p.count → (group_at p (suc i)).n ≡ n) → is_page p ≡ true
 unfolding is_page like_first
-like_all p l m n h =
-    rw (le-leb 1 p.count l, le-leb p.count 8 m)
-    (all_each (like_first p) p.count (λ i b. eq-eqb _ _ (h i b ∙ sym (h 0 (omega arith)))))
+like_all p l m n h = grind (arith, le-leb, all_each, eq-eqb)
 
 module _ (n e : ℕ) (p : Page) (o : OpenedPage n e p) where
   ranges : (is_size n ≡ true) × (is_endurance e ≡ true)
   unfolding open_of
-  ranges =
-      let sized = check_held (is_size n) Size _ (told_accepted (open_checks n e) (opened n e) no_group o.opens).0 in
-      (sized.0, (check_held (is_endurance e) Endurance [] sized.1).0)
+  ranges = grind (arith, check_held, told_accepted)
 
   opened_at : (i : ℕ) → i < p.count → group_at p (suc i) ≡ opened n e
   unfolding open_of
-  opened_at i l = o.groups (suc i) (among_below p.count i l) ∙ (told_accepted (open_checks n e) (opened n e) no_group o.opens).1
+  opened_at i l = grind (arith, among_below, told_accepted)
 
   opened_page : is_page p ≡ true
   opened_page = like_all p o.least o.most n (λ i l. ap (λ (g : Group). g.n) (opened_at i l))
@@ -85,10 +73,7 @@ module _ (n e : ℕ) (p : Page) (o : OpenedPage n e p) where
 
     pub first_page : length ss ≡ p.count → ((k : ℕ) → among p.count k ≡ true → symbol_at ss k < K n) → (store_page_of p ss).number ≡ 0
     unfolding store_page_of
-    first_page w s =
-        sym (ap (λ t. t.number)
-        (page_done (takes p ss) p.count (number_stored p ss) (all_stored p ss) _ (is_taken p ss opened_page w)
-        (no_first (number_stored p ss) p.count (λ i l. first_number i l (s (suc i) (among_below p.count i l))))))
+    first_page w s = grind (arith, page_done, is_taken, opened_page, no_first, first_number, among_below)
 
 -- ---- one is refused half way: one group has had calls of its own
 
@@ -146,9 +131,7 @@ module _
         go false = refl
 
     here_refuses : number_stored now ss (suc i) ≡ number
-    here_refuses =
-        let group : group_at now (suc i) ≡ g = group_now i inside ∙ ap found (eq-eqb (suc i) (suc i) refl) in
-        sym (store_call_number now ss (suc i)) ∙ rw group refuses
+    here_refuses = grind (arith, group_now, eq-eqb, store_call_number)
 
     others_take : (j : ℕ) → j < p.count → j ≢ i → number_stored now ss (suc j) ≡ 0
     others_take j l d =

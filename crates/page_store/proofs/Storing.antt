@@ -11,13 +11,11 @@ use lib.ListN.{length, get_or, set}
 use borrow.Author.Tests.{eqb-true, eq-eqb, ne_eqb}
 use Rattle.order.specs.declared.Refusal.{Refusal}
 use Rattle.order.specs.declared.Refusal.TheVariants.{NoPage}
-use Rattle.order.specs.declared.Outcome.TheVariants.{Done, Refused}
-use Rattle.order.specs.Refusals.{refusal_number, outcome_number, Told}
+use Rattle.order.specs.Refusals.{refusal_number, Told}
 use Rattle.order.proofs.Cells.{both}
 use Rattle.order.proofs.Refusals.{not-zero}
 use Rattle.group.specs.declared.Group.{Group}
-use Rattle.push_up.specs.declared.Written.{Written}
-use Rattle.push_up.specs.WriteAnswer.{Program, told_written}
+use Rattle.push_up.specs.WriteAnswer.{Program, unpushed}
 use Rattle.engine.specs.ReadStore.{store_of}
 use Rattle.page.specs.declared.Page.{Page}
 use Rattle.page.specs.Groups.{total, put_each, first_refusing}
@@ -65,41 +63,40 @@ store_start {p} {ss} w e =
     }
 
 module _ {p : Page} {ss : List ℕ} {groups : List Group} {pulses k : ℕ} (h : StoredTo p ss groups pulses k) where
-  module _ (l : k < p.count) (a : Written) (d : Group) (e : told_written a ≡ store_of (get_or p.groups k d) (get_or ss k 0)) where
-    store_same : told_written a ≡ store_of (group_at p (suc k)) (symbol_at ss (suc k))
-    store_same = e ∙ rw (group_at_lem p k d (omega (arith, h.long, h.most)), symbol_at_lem ss k)
+  module _ (l : k < p.count) (d : Group) where
+    -- by the store to group k + 1 of its symbol
+    store_same : store_of (get_or p.groups k d) (get_or ss k 0) ≡ store_of (group_at p (suc k)) (symbol_at ss (suc k))
+    store_same = rw (group_at_lem p k d (omega (arith, h.long, h.most)), symbol_at_lem ss k)
 
-    store_number : number_stored p ss (suc k) ≡ outcome_number a.outcome
-    unfolding number_stored
-    store_number = sym (ap (λ (t : Told Program). t.number) store_same)
+    module _ {a : Program} (e : record { number = 0; value = a } ≡ store_of (get_or p.groups k d) (get_or ss k 0)) (w : length a.group.levels ≡ 12) where
+      pub pulses_low : a.pulses ≤ 49140
+      pulses_low =
+          let same = ap (λ (t : Told Program). t.value.pulses) e in
+          omega (arith, same, store_pulses _ _ (sym (ap (λ (t : Told Program). length t.value.group.levels) e) ∙ w))
 
-    pub pulses_low : length a.group.levels ≡ 12 → a.pulses ≤ 49140
-    pulses_low w =
-        let same = ap (λ (t : Told Program). t.value.pulses) e in
-        omega (arith, same, store_pulses _ _ (sym (ap (λ (t : Told Program). length t.value.group.levels) e) ∙ w))
+      pub store_more : (more : ℕ) → more ≡ pulses + a.pulses → StoredTo p ss (set groups k a.group) more (k + 1)
+      unfolding put_each total number_stored group_stored pulses_stored
+      store_more more sum =
+          let stored : record { number = 0; value = a } ≡ store_of (group_at p (suc k)) (symbol_at ss (suc k)) = e ∙ store_same in
+          record {
+            is_taken = h.is_taken;
+            long = h.long;
+            most = h.most;
+            one_each = h.one_each;
+            within = omega arith;
+            none = rw (add-one k) (none_next (number_stored p ss) k h.none (sym (ap (λ (t : Told Program). t.number) stored)));
+            held = rw (add-one k, h.held) (ap (λ (t : Told Program). set (put_each k (group_stored p ss) p.groups) k t.value.group) stored);
+            sum = rw (add-one k, sum, h.sum) (ap (λ (t : Told Program). total k (pulses_stored p ss) + t.value.pulses) stored);
+            low = omega (arith, sum, h.low, pulses_low);
+          }
 
-    pub store_more : length a.group.levels ≡ 12 → a.outcome ≡ Done → (more : ℕ) → more ≡ pulses + a.pulses → StoredTo p ss (set groups k a.group) more (k + 1)
-    unfolding put_each total group_stored pulses_stored
-    store_more w o more sum =
-        record {
-          is_taken = h.is_taken;
-          long = h.long;
-          most = h.most;
-          one_each = h.one_each;
-          within = omega arith;
-          none = rw (add-one k) (none_next (number_stored p ss) k h.none (store_number ∙ ap outcome_number o));
-          held = rw (add-one k, h.held) (ap (λ (t : Told Program). set (put_each k (group_stored p ss) p.groups) k t.value.group) store_same);
-          sum = rw (add-one k, sum, h.sum) (ap (λ (t : Told Program). total k (pulses_stored p ss) + t.value.pulses) store_same);
-          low = omega (arith, sum, h.low, pulses_low w);
-        }
-
-    pub store_refused_at : {r : Refusal} → a.outcome ≡ Refused r → (q : Page) (named : ℕ) → q ≡ p → named ≡ k + 1
-        → record { number = outcome_number a.outcome; value = none_stored q named } ≡ store_page_of p ss
-    unfolding store_page_of
-    store_refused_at {r} o q named same one =
-        rw (same, one, add-one k, ← store_number)
-        (page_refused (takes p ss) p.count (number_stored p ss) (all_stored p ss) (none_stored p) h.is_taken k l h.none
-        (λ z. not-zero r (sym (store_number ∙ ap outcome_number o) ∙ z)))
+    pub store_refused_at : (r : Refusal) {g : Group} → record { number = refusal_number r; value = unpushed g } ≡ store_of (get_or p.groups k d) (get_or ss k 0)
+        → (named : ℕ) → named ≡ k + 1 → record { number = refusal_number r; value = none_stored p named } ≡ store_page_of p ss
+    unfolding store_page_of number_stored
+    store_refused_at r e named one =
+        let number : number_stored p ss (suc k) ≡ refusal_number r = ap (λ (t : Told Program). t.number) (sym (e ∙ store_same)) in
+        rw (one, add-one k, ← number)
+        (page_refused (takes p ss) p.count (number_stored p ss) (all_stored p ss) (none_stored p) h.is_taken k l h.none (λ z. not-zero r (sym number ∙ z)))
 
   pub store_end : p.count ≤ k
       → record { number = 0; value = record { group = 0; page = record { count = p.count; groups = groups }; pulses = pulses } } ≡ store_page_of p ss

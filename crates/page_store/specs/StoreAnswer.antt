@@ -4,15 +4,16 @@
 --   takes p ss          a page with a list of one symbol a group
 --   number_stored, group_stored, pulses_stored    what the store of its symbol in group k answers: the number, the group after it, the pulses
 --   AfterStore          what the answer to a page store carries: the group that it names, the page, the pulses
---   told_stored a        what that answer says: its number, and what it carries
 --   all_stored p ss      what an accepted page store carries: each group with its symbol stored, and the sum of their pulses
 --   none_stored p k      what one that is refused carries: the group k that it names, the page as it was, no pulses
+--   told_stored p a      what the answer to a page store of p says: its number, and what it carries
 --   store_page_of         the answer to `store_page`
-use Rattle.std.specs.Prelude.{ℕ, ◌-◌, Bool, ◌&&◌, List, eqb, length, get_or}
-use Rattle.order.specs.Refusals.{outcome_number, Told}
+use Rattle.std.specs.Prelude.{ℕ, ◌-◌, Bool, ◌&&◌, List, Result, Ok, Err, eqb, length, get_or}
+use Rattle.order.specs.Refusals.{refusal_number, Told}
 use Rattle.group.specs.declared.Group.{Group}
 use Rattle.engine.specs.ReadStore.{store_of}
 use Rattle.page.specs.declared.Page.{Page}
+use Rattle.page.specs.declared.PageRefusal.{PageRefusal}
 use Rattle.page.specs.Groups.{total, put_each}
 use Rattle.page.specs.Pages.{group_at, is_page, page_answer}
 use Rattle.page_store.specs.declared.PageStored.{PageStored}
@@ -37,9 +38,6 @@ pub record AfterStore : Type 0 where
   pub page : Page
   pub pulses : ℕ
 
-abbrev pub told_stored : PageStored → Told AfterStore
-told_stored a = record { number = outcome_number a.outcome; value = record { group = a.group; page = a.page; pulses = a.pulses } }
-
 abbrev pub all_stored : Page → List ℕ → AfterStore
 all_stored p ss =
     record {
@@ -50,6 +48,10 @@ all_stored p ss =
 
 abbrev pub none_stored : Page → ℕ → AfterStore
 none_stored p k = record { group = k; page = p; pulses = 0 }
+
+abbrev pub told_stored : Page → Result PageStored PageRefusal → Told AfterStore
+told_stored p (Ok stored) = record { number = 0; value = record { group = 0; page = stored.page; pulses = stored.pulses } }
+told_stored p (Err refused) = record { number = refusal_number refused.refusal; value = none_stored p refused.group }
 
 unfoldable pub store_page_of : Page → List ℕ → Told AfterStore
 store_page_of p ss = page_answer (takes p ss) p.count (number_stored p ss) (all_stored p ss) (none_stored p)

@@ -4,71 +4,52 @@
 #![tactic(auto)]
 
 ghost use Rattle.std.specs.Prelude.{◌≡◌, true};
-ghost use Rattle.order.specs.Refusals.{outcome_number};
-ghost use Rattle.page_store.specs.StoreAnswer.{takes, told_stored, none_stored, store_page_of};
+ghost use Rattle.page_store.specs.StoreAnswer.{takes, told_stored, store_page_of};
 
-use order::{Outcome, Refusal};
-use page::Page;
+use order::Refusal;
+use page::{Page, PageRefusal};
 
-// The answer of a page store. Its group is the first that refuses, 0 where none does, it is no page or there is not one symbol a group.
-#[derive(Clone, Copy)]
+// The page as a page store that went through left it.
+#[derive(Clone, Copy, PartialEq, Eq)]
 pub struct PageStored {
-    pub outcome: Outcome,
-    pub group: usize,
     pub page: Page,
     pub pulses: u32,
 }
 
-// A page with one symbol a group stored, in all of its groups or in none.
-pub fn store_page(page: Page, symbols: &[u32]) -> PageStored
-    ensures { told_stored result ≡ store_page_of page symbols.now }
+// A page with one symbol a group stored, in all of its groups or in none: a refused store leaves the page as it is. The refusal names the first group that
+// refuses, 0 where it is no page or there is not one symbol a group.
+pub fn store_page(page: Page, symbols: &[u32]) -> Result<PageStored, PageRefusal>
+    ensures { told_stored page result ≡ store_page_of page symbols.now }
 {
-    if !page::is_page(page) {
-        return store_refused(Outcome::Refused(Refusal::NoPage), 0, page);
-    }
-    if symbols.len() != page.count {
-        return store_refused(Outcome::Refused(Refusal::NoPage), 0, page);
+    if !page::is_page(page) || symbols.len() != page.count {
+        return Err(PageRefusal {
+            refusal: Refusal::NoPage,
+            group: 0,
+        });
     }
     store_each(page, symbols)
 }
 
-// The groups are stored to in turn, in a copy: the first that refuses gives the page back as it was.
-fn store_each(page: Page, symbols: &[u32]) -> PageStored
+// The groups are stored to in turn, in a copy, up to the first that refuses. One loop here and one in `page::read_each`: the calls answer different types.
+fn store_each(page: Page, symbols: &[u32]) -> Result<PageStored, PageRefusal>
     requires { takes page symbols.now ≡ true }
-    ensures { told_stored result ≡ store_page_of page symbols.now }
+    ensures { told_stored page result ≡ store_page_of page symbols.now }
 {
-    let count = page.count;
     let mut groups = page.groups;
-    let mut pulses: u32 = 0;
-    let mut i = 0;
-    while i < count {
-        let g = page.groups[i];
-        let written = engine::store(g, symbols[i]);
-        let outcome = written.outcome;
-        let Outcome::Done = outcome else {
-            return store_refused(outcome, i + 1, page);
-        };
-        let stored = written.group;
-        groups[i] = stored;
+    let mut pulses = 0;
+    for (i, symbol) in symbols.iter().enumerate() {
+        let written = engine::store(page.groups[i], *symbol).map_err(|refusal| PageRefusal {
+            refusal,
+            group: i + 1,
+        })?;
+        groups[i] = written.group;
         pulses += written.pulses;
-        i += 1;
     }
-    PageStored {
-        outcome: Outcome::Done,
-        group: 0,
-        page: Page { count, groups },
+    Ok(PageStored {
+        page: Page {
+            count: page.count,
+            groups,
+        },
         pulses,
-    }
-}
-
-// The answer of a page store that is refused, and names this group, or 0: the page as it was.
-fn store_refused(outcome: Outcome, group: usize, page: Page) -> PageStored
-    ensures { told_stored result ≡ record { number = outcome_number outcome; value = none_stored page group } }
-{
-    PageStored {
-        outcome,
-        group,
-        page,
-        pulses: 0,
-    }
+    })
 }

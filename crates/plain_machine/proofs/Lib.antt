@@ -1,2 +1,3 @@
+pub mod Answers
 pub mod Machine
 pub mod Blank

@@ -5,22 +5,24 @@
 #![tactic(auto)]
 
 ghost use Rattle.std.specs.Prelude.{◌≡◌};
-ghost use Rattle.group.specs.Record.{told_changed};
-ghost use Rattle.push_up.specs.WriteAnswer.{told_written};
+ghost use Rattle.std.proofs.Math.Option.{none};
+ghost use Rattle.push_up.specs.WriteAnswer.{program_of};
 ghost use Rattle.sharing.specs.Shared.{plain_target};
-ghost use Rattle.engine.specs.Scrub.{told_applied};
-ghost use Rattle.plain_machine.specs.Machine.{after_program, after_change, apply_of};
+ghost use Rattle.engine.specs.ReadStore.{told_read};
+ghost use Rattle.engine.specs.Scrub.{applied_step, told_applied, programmed_step, after_read};
+ghost use Rattle.plain_machine.specs.Machine.{apply_of};
 
-use engine::{Applied, Judged};
-use group::{Changed, Group};
-use order::{Cell, Order, Outcome};
+use code::Decoded;
+use engine::Applied;
+use group::Group;
+use order::{Cell, Order, Refusal};
 use push_up::Written;
 use sharing::Ranked;
 
 // One of the eight calls of demand 3, with its numbers. The target of a write stands beside it in the call; the rank sizes there are for a shared write
 // alone. A write or a shared write into a lent list has the room of the list, that is, how many places it has; `push_list` puts the pushes there, and here
 // they come by value too.
-#[derive(Clone, Copy)]
+#[derive(Clone, Copy, PartialEq, Eq)]
 pub enum Kind {
     Write,
     WriteInto(usize),
@@ -34,7 +36,8 @@ pub enum Kind {
     Read,
 }
 
-#[derive(Clone, Copy)]
+// The target stands beside the kind: demand 3's definitions speak of a call's target.
+#[derive(Clone, Copy, PartialEq, Eq)]
 pub struct Call {
     pub kind: Kind,
     pub target: Ranked,
@@ -51,56 +54,59 @@ pub fn plain_target(cells: Order) -> Ranked
     }
 }
 
-// One call of the plain machine.
-pub fn apply(g: Group, call: Call) -> Applied
-    ensures { told_applied result ≡ apply_of g call }
+// One call of the plain machine. A refused one leaves the group as it is. A match and no trait: the calls are data, of which demand 3's lists are made.
+#[tactic(auto, unfolding(crate::specs::Machine::apply_of), using(crate::proofs::Answers::refused_program))]
+pub fn apply(g: Group, call: Call) -> Result<Applied, Refusal>
+    ensures { told_applied g result ≡ apply_of g call }
 {
     let target = call.target;
-    let kind = call.kind;
-    match kind {
-        Kind::Write => from_written(writing::write(g, target.cells), 0),
-        Kind::WriteInto(room) => from_written(push_room::write_with_room(g, target.cells, room), 0),
-        Kind::WriteShared => from_written(sharing::write_shared(g, target), 0),
-        Kind::WriteSharedInto(room) => from_written(
-            push_room::write_shared_with_room(g, target, room),
+    match call.kind {
+        Kind::Write => Ok(from_written(writing::write(g, target.cells)?, 0)),
+        Kind::WriteInto(room) => Ok(from_written(
+            push_room::write_with_room(g, target.cells, room)?,
             0,
-        ),
-        Kind::Store(symbol) => from_written(engine::store(g, symbol), symbol),
+        )),
+        Kind::WriteShared => Ok(from_written(sharing::write_shared(g, target)?, 0)),
+        Kind::WriteSharedInto(room) => Ok(from_written(
+            push_room::write_shared_with_room(g, target, room)?,
+            0,
+        )),
+        Kind::Store(symbol) => Ok(from_written(engine::store(g, symbol)?, symbol)),
         Kind::Scrub => engine::scrub(g),
-        Kind::Leak(cell, d) => from_changed(changes::leak(g, cell, d)),
-        Kind::Wear(cell, cap) => from_changed(changes::wear(g, cell, cap)),
-        Kind::Erase => from_changed(changes::erase(g)),
-        Kind::Read => engine::from_read(g, engine::read(g)),
+        Kind::Leak(cell, d) => Ok(engine::alone(changes::leak(g, cell, d)?)),
+        Kind::Wear(cell, cap) => Ok(engine::alone(changes::wear(g, cell, cap)?)),
+        Kind::Erase => Ok(engine::alone(changes::erase(g)?)),
+        Kind::Read => Ok(from_read(g, engine::read(g)?)),
     }
 }
 
-// The answer of leak, wear or erase.
-fn from_changed(answer: Changed) -> Applied
-    ensures { told_applied result ≡ after_change (told_changed answer) }
+// What an accepted write or shared write tells, or an accepted store of a symbol: field by field, as in `engine::scrub`, one copy of the pushes less.
+fn from_written(written: Written, symbol: u32) -> Applied
+    ensures { applied_step result ≡ programmed_step (program_of written) symbol none }
 {
-    let outcome = answer.outcome;
-    let group = answer.group;
-    engine::unchanged(outcome, group)
-}
-
-// The answer of a write or a shared write, or of a store of a symbol.
-fn from_written(answer: Written, symbol: u32) -> Applied
-    ensures { told_applied result ≡ after_program (told_written answer) symbol }
-{
-    let outcome = answer.outcome;
-    let group = answer.group;
-    let pushes = answer.pushes;
-    let mut told: u32 = 0;
-    if let Outcome::Done = outcome {
-        told = symbol;
-    }
-    Applied {
-        outcome,
+    let Written {
         group,
-        symbol: told,
-        verdict: Judged::Nothing,
-        pulses: answer.pulses,
-        count: answer.count,
+        pulses,
+        count,
         pushes,
+    } = written;
+    Applied {
+        group,
+        symbol,
+        verdict: None,
+        pulses,
+        count,
+        pushes,
+    }
+}
+
+// What an accepted read of a group tells.
+fn from_read(g: Group, read: Decoded) -> Applied
+    ensures { applied_step result ≡ (after_read g (told_read (Ok read))).value }
+{
+    Applied {
+        symbol: read.symbol,
+        verdict: Some(read.verdict),
+        ..engine::alone(g)
     }
 }

@@ -2,11 +2,12 @@
 --
 --   Carried                 what the answer beside a lent list carries: the group, the pulses, how many pushes
 --   carried_of t             so much of what a write answers; the pushes are in the list
---   told_into a              what the answer beside a lent list says: its number, and what it carries
+--   told_into g a            what the answer beside a lent list says to a write of g: its number, and what it carries; where it is refused, g as it was
 --   filled k ps list        the first k of the pushes, then the later places of the list as they were
 --   list_after t list        the lent list after a call that answers t: the pushes first and the later places untouched; a refusal leaves it as it was
-use Rattle.std.specs.Prelude.{ℕ, List, ◌++◌, take, drop}
-use Rattle.order.specs.Refusals.{outcome_number, if_done, Told}
+use Rattle.std.specs.Prelude.{ℕ, List, ◌++◌, take, drop, Result, Ok, Err}
+use Rattle.order.specs.declared.Refusal.{Refusal}
+use Rattle.order.specs.Refusals.{refusal_number, if_done, Told}
 use Rattle.group.specs.declared.Group.{Group}
 use Rattle.push_up.specs.declared.Push.{Push}
 use Rattle.push_up.specs.WriteAnswer.{Program}
@@ -22,8 +23,9 @@ pub record Carried : Type 0 where
 abbrev pub carried_of : Told Program → Told Carried
 carried_of t = record { number = t.number; value = record { group = t.value.group; pulses = t.value.pulses; count = t.value.count } }
 
-abbrev pub told_into : WrittenInto → Told Carried
-told_into a = record { number = outcome_number a.outcome; value = record { group = a.group; pulses = a.pulses; count = a.count } }
+abbrev pub told_into : Group → Result WrittenInto Refusal → Told Carried
+told_into g (Ok a) = record { number = 0; value = record { group = a.group; pulses = a.pulses; count = a.count } }
+told_into g (Err refusal) = record { number = refusal_number refusal; value = record { group = g; pulses = 0; count = 0 } }
 
 -- ---- the list
 

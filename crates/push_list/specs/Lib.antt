@@ -1,2 +1,1 @@
 pub mod LentWrite
-pub mod Steps

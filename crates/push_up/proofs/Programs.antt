@@ -11,7 +11,7 @@ use Rattle.group.specs.Levels.{level, put, AtMost, sum}
 use Rattle.group.proofs.Levels.{put_same, at_most_length, sum_put, rises_up}
 use Rattle.push_up.specs.declared.Push.{Push}
 use Rattle.push_up.specs.PushUp.{floor_over, lift, raise, push_of, rank_pushes, pushes, pulses_in}
-use Rattle.push_up.specs.WriteAnswer.{raised, pushed}
+use Rattle.push_up.specs.WriteAnswer.{raised, pushed, unpushed}
 use Rattle.push_up.proofs.Minimal.{Off, OffAll, Fresh, Apart, apart_wider, lift_above, lift_other, raise_above, raise_other}
 use Rattle.push_up.proofs.Orders.{TargetOf}
 use Rattle.push_up.proofs.Pushes.{push_cases}
@@ -139,6 +139,11 @@ is_push_program g rs ls a =
 pub no_pushes : (ls : List ℕ) → IsPushProgram [] ls ls
 unfolding pushes raise Apart
 no_pushes ls = is_push_program 1 [] ls tt
+
+-- the pulses of a refused write are those of its pushes: none
+pub refused_pulses : (g : Group) → (unpushed g).pulses ≡ pulses_in (counted (unpushed g).count (unpushed g).pushes)
+unfolding pulses_in
+refused_pulses g = refl
 
 -- ---- the pushes that the answer to a write carries
 

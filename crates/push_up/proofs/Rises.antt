@@ -26,11 +26,11 @@ module _ (e u r s w : ℕ) (small : e ≤ low) (fits : u < 2 ^ 32) (short : r < 
   under : s < 2 ^ 32
   under = omega arith
 
-  next_test : (over : ℕ) → leb (bit_or (bit_or (bit_or over u) s) w) low ≡ (leb over low && leb (u + r) e)
-  next_test over = or_at_most 31 low (bit_or (bit_or over u) s) w refl ∙ rw (or_at_most 31 low (bit_or over u) s refl, or_at_most 31 low over u refl) (regroup ∙ go (leb u low) refl)
+  next_test : (over : ℕ) → leb (bit_or over (bit_or (bit_or u s) w)) low ≡ (leb over low && leb (u + r) e)
+  next_test over = or_at_most 31 low over (bit_or (bit_or u s) w) refl ∙ rw (or_at_most 31 low (bit_or u s) w refl, or_at_most 31 low u s refl) (regroup ∙ go (leb u low) refl)
     where
-      regroup : (((leb over low && leb u low) && leb s low) && leb w low) ≡ (leb over low && (leb u low && (leb s low && leb w low)))
-      regroup = and_assoc (leb over low && leb u low) (leb s low) (leb w low) ∙ and_assoc (leb over low) (leb u low) (leb s low && leb w low)
+      regroup : (leb over low && ((leb u low && leb s low) && leb w low)) ≡ (leb over low && (leb u low && (leb s low && leb w low)))
+      regroup = ap (λ (t : Bool). leb over low && t) (and_assoc (leb u low) (leb s low) (leb w low))
 
       go : (b : Bool) → leb u low ≡ b → (leb over low && (b && (leb s low && leb w low))) ≡ (leb over low && leb (u + r) e)
       go true f = ap (λ (t : Bool). leb over low && t) (above_test e s w small under less wraps ∙ ap (λ (t : ℕ). leb t e) (whole (leb-true u low f)))
@@ -57,19 +57,21 @@ module _ (e : ℕ) (us xs ys : List ℕ) where
   adding_none = record { gathered = refl; summed = λ f. refl }
 
   module _ {sums : List ℕ} {over i : ℕ} (a : Adding sums over i) where
-    pub adding_more : (s w : ℕ) → e ≤ low → get_or us i 0 < 2 ^ 32 → rise xs ys i < 65536 → s ≡ (get_or us i 0 + rise xs ys i) % 2 ^ 32 → w < 2 ^ 32 → (w + s) % 2 ^ 32 ≡ e
-        → i < length us → i < length xs → i < length ys → Adding (set sums i s) (bit_or (bit_or (bit_or over (get_or us i 0)) s) w) (i + 1)
+    -- u pulses are used at place i, and r is the rise there
+    pub adding_more : (u r : ℕ) → u ≡ get_or us i 0 → r ≡ rise xs ys i → e ≤ low → u < 2 ^ 32 → r < 65536 → i < length us → i < length xs → i < length ys
+        → let s = (u + r) % 2 ^ 32 in Adding (set sums i s) (bit_or over (bit_or (bit_or u s) ((e + (2 ^ 32 - s)) % 2 ^ 32))) (i + 1)
     unfolding tallied all_at_most
-    adding_more s w small fits short sum less wraps l m n =
-        let u = get_or us i 0 in
-        let test = next_test e u (rise xs ys i) s w small fits short sum less wraps over in
+    adding_more u r here rises small fits short l m n =
+        let s = (u + r) % 2 ^ 32 in
+        let w = (e + (2 ^ 32 - s)) % 2 ^ 32 in
+        let test = next_test e u r s w small fits short refl (omega arith) (omega arith) over in
         record {
-          gathered = rw test (and_assoc (leb over low) (leb (u + rise xs ys i) e) _ ∙ rw (drop_up us i l, drop_up xs i m, drop_up ys i n) at a.gathered);
+          gathered = rw test (and_assoc (leb over low) (leb (u + r) e) _ ∙ rw (here, rises) (rw (drop_up us i l, drop_up xs i m, drop_up ys i n) at a.gathered));
           summed =
               λ f.
-              let t = both (leb over low) (leb (u + rise xs ys i) e) (sym test ∙ f) in
-              let plain = whole e u (rise xs ys i) s w small fits short sum less wraps (omega (arith, leb-true (u + rise xs ys i) e t.1)) in
-              rw (plain, a.summed t.0, add-one i) (sum-suc i us xs ys l m n);
+              let t = both (leb over low) (leb (u + r) e) (sym test ∙ f) in
+              let plain = whole e u r s w small fits short refl (omega arith) (omega arith) (omega (arith, leb-true (u + r) e t.1)) in
+              rw (plain, a.summed t.0, add-one i, here, rises) (sum-suc i us xs ys l m n);
         }
 
     module _ (l : length us ≤ i) where

@@ -1,13 +1,15 @@
 -- What a write knows of its group, its order and its levels, and what it leaves: a group stays a group.
 -- Assumes nothing.
-use Rattle.std.proofs.Common.{◌≡◌, ℕ, ◌-◌, ◌≤◌, Bool, true, List, [], ◌∷◌, ◌++◌, length, refl, ap, ◌∙◌, arith}
+use Rattle.std.proofs.Common.{◌≡◌, ℕ, ◌-◌, ◌≤◌, Bool, true, cond, List, [], ◌∷◌, ◌++◌, length, refl, sym, ap, ◌∙◌, arith}
+use Rattle.std.specs.Prelude.{Some, None, Ok, Err, replicate}
+use Rattle.push_up.specs.declared.PushUp.{PushUp}
 use Rattle.order.specs.declared.Order.{Order}
 use Rattle.order.specs.declared.Refusal.{Refusal}
 use Rattle.order.specs.declared.Refusal.TheVariants.{NoOrder, Worn, Spent}
-use Rattle.order.specs.Refusals.{number_of, answer}
+use Rattle.order.specs.Refusals.{refusal_number, number_of, Told, told, answer}
 use Rattle.order.specs.Cells.{is_order}
 use Rattle.order.specs.Order.{listed, is_order_of}
-use Rattle.order.proofs.Refusals.{all_held, check_held, check_holds, all_hold}
+use Rattle.order.proofs.Refusals.{all_held, check_held, check_holds, all_hold, later_decide, told_done, told_refused}
 use Rattle.order.proofs.Check.{order_parts}
 use Rattle.group.specs.declared.Group.{Group}
 use Rattle.group.specs.Record.{all_at_most, group_checks, IsGroup}
@@ -17,9 +19,9 @@ use Rattle.group.proofs.Tallies.{length_tallied, tallied_same, tallied_mono, row
 use Rattle.group.proofs.Levels.{at_most_refl, at_most_trans, at_most_length, at_most_true, true_at_most}
 use Rattle.group.proofs.Checks.{rules_held, checked_size, checked_levels, checked_caps}
 use Rattle.group.proofs.Groups.{told_value, told_accepted, group_with}
-use Rattle.push_up.specs.declared.Tallies.{Tallies}
 use Rattle.push_up.specs.PushUp.{singles, Shows}
-use Rattle.push_up.specs.WriteAnswer.{Program, raised, fits, lasts, push_checks, pushed, unpushed, write_of, tallies_of}
+use Rattle.push_up.specs.WriteAnswer.{Program, raised, fits, lasts, push_checks, pushed, unpushed, write_of, tallies_of, program_of, used_after_of, programmed_of}
+use Rattle.push_up.specs.Steps.{push_up_to}
 use Rattle.push_up.proofs.Minimal.{Apart, apart_wider, raise_least, raise_shows}
 use Rattle.push_up.proofs.Pushes.{few_pushes}
 use Rattle.push_up.proofs.Orders.{TargetOf}
@@ -45,15 +47,40 @@ push_held g t e = let f = check_held (fits g t) Worn _ e in (f.0, (check_held (l
 pub push_holds : (g : Group) (t : List (List ℕ)) → fits g t ≡ true → lasts g t ≡ true → number_of (push_checks g t) ≡ 0
 push_holds g t f l = check_holds Worn _ f ∙ check_holds Spent [] l ∙ all_hold
 
--- the rises of a push-up, added in a group: whether the endurance lasts, and the used pulses then
-module _ (g : Group) (d : number_of (group_checks g) ≡ 0) (t : List (List ℕ)) (r : Tallies) (e : r ≡ tallies_of g.endurance g.used g.levels (raised g t)) where
-  pub added_lasts : r.lasting ≡ lasts g t
+-- the rises of a push-up, added in a group, and the used pulses after it
+module _ (g : Group) (d : number_of (group_checks g) ≡ 0) (t : List (List ℕ)) where
+  pub added_lasts : tallies_of g.endurance g.used g.levels (raised g t) ≡ cond (lasts g t) (Some (tallied g.used g.levels (raised g t))) None
   unfolding lasts tallies_of
-  added_lasts = ap (λ (t : Tallies). t.lasting) e ∙ rw (rules_held g d).endurance
+  added_lasts = rw (rules_held g d).endurance
 
-  pub added_used : lasts g t ≡ true → r.used ≡ tallied g.used g.levels (raised g t)
-  unfolding lasts tallies_of
-  added_used l = ap (λ (t : Tallies). t.used) e ∙ rw ((rules_held g d).endurance, l)
+  pub added_used : lasts g t ≡ true → tallies_of g.endurance g.used g.levels (raised g t) ≡ Some (tallied g.used g.levels (raised g t))
+  added_used l = added_lasts ∙ rw l refl
+
+  pub used_push : used_after_of g (raised g t) ≡ answer (push_checks g t) (tallied g.used g.levels (raised g t)) (replicate 12 0)
+  unfolding used_after_of fits lasts
+  used_push = rw (rules_held g d).endurance
+
+  -- so the answer of a call that passes its first checks, makes the push-up, and asks for its used pulses
+  module _ (first : List (Bool × Refusal)) (w : Bool) (f : number_of first ≡ 0) {p : PushUp} (e : p ≡ push_up_to 1 t g.levels) where
+    used_known : {a : Told (List ℕ)} → a ≡ used_after_of g p.levels → a ≡ answer (push_checks g t) (tallied g.used g.levels (raised g t)) (replicate 12 0)
+    unfolding push_up_to raised
+    used_known u = u ∙ ap (λ (q : PushUp). used_after_of g q.levels) e ∙ used_push
+
+    used_number : {a : Told (List ℕ)} → a ≡ used_after_of g p.levels → number_of (first ++ push_checks g t) ≡ a.number
+    unfolding answer
+    used_number u = later_decide (push_checks g t) first f ∙ sym (ap (λ (a : Told (List ℕ)). a.number) (used_known u))
+
+    pub refused_after : (r : Refusal) → told (replicate 12 0) (Err r) ≡ used_after_of g p.levels
+        → record { number = refusal_number r; value = unpushed g } ≡ answer (first ++ push_checks g t) (pushed w g t) (unpushed g)
+    refused_after r u = told_refused _ (pushed w g t) (unpushed g) r (used_number u)
+
+    pub programmed_after : (us : List ℕ) → told (replicate 12 0) (Ok us) ≡ used_after_of g p.levels
+        → record { number = 0; value = program_of (programmed_of w g p us) } ≡ answer (first ++ push_checks g t) (pushed w g t) (unpushed g)
+    unfolding push_up_to answer raised pushed
+    programmed_after us u =
+        let none : number_of (push_checks g t) ≡ 0 = sym (ap (λ (a : Told (List ℕ)). a.number) (used_known u)) in
+        let summed : us ≡ tallied g.used g.levels (raised g t) = ap (λ (a : Told (List ℕ)). a.value) (used_known u) ∙ rw none refl in
+        rw (summed, e) (told_done _ (pushed w g t) (unpushed g) (used_number u))
 
 -- cells raised past these checks leave a group
 pub group_pushed : (w : Bool) (g : Group) (t : List (List ℕ)) → IsGroup g → number_of (push_checks g t) ≡ 0 → IsGroup (pushed w g t).group

@@ -2,15 +2,16 @@
 -- Assumes nothing.
 use Prim.Native.Nat.{◌≤◌}
 use mathlib.Core.Path.{◌≡◌, refl, sym, ap, ◌∙◌}
-use mathlib.Core.Bool.{true}
+use mathlib.Core.Bool.{true, ◌&&◌}
 use mathlib.Core.List.{List}
-use lib.ListN.{length}
+use lib.ListN.{length, drop}
+use borrow.Author.Tests.{eq-eqb}
 use Rattle.order.specs.declared.Cell.{Cell}
 use Rattle.order.specs.declared.Rank.{Rank}
 use Rattle.order.specs.declared.Order.{Order}
 use Rattle.ranks.specs.declared.Ranks.{Ranks}
 use Rattle.order.specs.Refusals.{number_of, is_size}
-use Rattle.order.specs.Cells.{is_listing, is_order}
+use Rattle.order.specs.Cells.{is_listing, is_order, all_zero}
 use Rattle.order.specs.Order.{cell_numbers, listed, is_order_of, order_checks, order_record}
 use Rattle.ranks.specs.Ranks.{rank_numbers, ranked, rank_checks, ranks_of, order_by_rank, ranks_of_order, order_of_ranks}
 use Rattle.order.proofs.Cells.{IsOrder, order_true}
@@ -31,6 +32,12 @@ ranks_order r w z =
     let s = (size_true r.len z).1 in
     sym (sized_listing r.len (order_by_rank r) z)
     ∙ inverted_order cell cell_number (λ k. refl) (λ c. refl) 12 r.len (ranked r) (length_front (rank_numbers r) r.len (length_ranks r w) s) s
+
+-- so the checks of ranks hold where their inverse is an order and the places past the length are clear
+pub ranks_listing : (r : Ranks) → length r.ranks ≡ 12 → is_size r.len ≡ true
+    → is_listing r.len r.len (rank_numbers r) ≡ (is_order_of r.len (order_by_rank r) && all_zero (drop r.len (rank_numbers r)))
+unfolding is_listing
+ranks_listing r w z = rw (eq-eqb r.len r.len refl, ranks_order r w z)
 
 -- ---- the order of an order's ranks
 

@@ -1,16 +1,21 @@
 -- The numbers in the twelve places of ranks.
 -- Assumes nothing.
-use Prim.Native.Nat.{ℕ, ◌+◌, ◌≤◌, ◌<◌}
-use native.Mathlib.Omega.{arith}
+use Prim.Native.Nat.{ℕ, ◌≤◌, ◌<◌}
 use mathlib.Core.Path.{◌≡◌, refl, sym, ap, ◌∙◌}
-use mathlib.Core.Bool.{true, false, ◌&&◌}
-use mathlib.Core.List.{List}
-use lib.ListN.{length, get_or, drop, length-map, get_or-map, drop_of_length-le}
+use mathlib.Core.Bool.{Bool, true, ◌&&◌}
+use mathlib.Core.List.{List, [], ◌∷◌, map}
+use lib.Seq.{get_or-take}
+use lib.ListN.{length, get_or, drop, length-map, get_or-map}
 use lib.Dec.{eqb}
-use borrow.Author.Tests.{eq-eqb, ne_eqb}
+use Rattle.std.specs.Prelude.{nat_eq}
+use Rattle.std.specs.List.{list_all}
+use Rattle.std.proofs.lemmas.List.{drop-map}
 use Rattle.order.specs.declared.Rank.{Rank}
-use Rattle.order.specs.Cells.{all_zero}
-use Rattle.order.proofs.Numbers.{drop_up}
+use Rattle.order.specs.declared.Order.{Order}
+use Rattle.order.specs.Cells.{is_order, all_zero}
+use Rattle.order.specs.Order.{cell_numbers, listed}
+use Rattle.order.proofs.Cells.{order_true, order_range}
+use Rattle.order.proofs.Numbers.{place_at}
 use Rattle.ranks.specs.declared.Ranks.{Ranks}
 use Rattle.ranks.specs.Ranks.{rank_numbers}
 
@@ -28,29 +33,19 @@ pub rank_at_lem : (r : Ranks) (i : ℕ) → (get_or r.ranks i (record { 0 = 0 })
 unfolding rank_numbers
 rank_at_lem r i = sym (get_or-map (λ (k : Rank). k.0) r.ranks i (record { 0 = 0 }))
 
+-- the cells that a sweep over an order meets
+pub cell_met : (o : Order) (k : ℕ) → is_order o.len (listed o) ≡ true → k < o.len
+    → (1 ≤ (get_or o.cells k (record { 0 = 0 })).0) × ((get_or o.cells k (record { 0 = 0 })).0 ≤ o.len)
+cell_met o k t l =
+    rw (get_or-take o.len (cell_numbers o) k 0 l, ← place_at o k) at (order_range o.len (listed o) (order_true o.len (listed o) t) k l)
+
 -- ---- the places past the length
 
--- the places from the length up to i are 0
-pub record ClearTo (xs : List ℕ) (len i : ℕ) : Type 0 where
-  pub whole : length xs ≡ 12
-  pub left : i ≤ 12
-  pub same : all_zero (drop i xs) ≡ all_zero (drop len xs)
+zeros : (ks : List Rank) → list_all (λ (k : Rank). nat_eq k.0 0) ks ≡ all_zero (map (λ (k : Rank). k.0) ks)
+unfolding all_zero
+zeros [] = refl
+zeros (k ∷ ks) = ap (λ (b : Bool). eqb k.0 0 && b) (zeros ks)
 
-pub clear_none : (xs : List ℕ) (len : ℕ) → length xs ≡ 12 → len ≤ 12 → ClearTo xs len len
-clear_none xs len w s = record { whole = w; left = s; same = refl }
-
-module _ {xs : List ℕ} {len i : ℕ} (t : ClearTo xs len i) where
-  module _ (l : i < 12) {x : ℕ} (at : x ≡ get_or xs i 0) where
-    clear_step : all_zero (drop i xs) ≡ eqb x 0 && all_zero (drop (i + 1) xs)
-    unfolding all_zero
-    clear_step = ap all_zero (drop_up xs i (omega (arith, t.whole))) ∙ rw at
-
-    pub clear_more : x ≡ 0 → ClearTo xs len (i + 1)
-    clear_more e = record { whole = t.whole; left = omega arith; same = sym (clear_step ∙ rw (eq-eqb x 0 e)) ∙ t.same }
-
-    pub clear_not : (x ≡ 0 → ⊥) → false ≡ all_zero (drop len xs)
-    clear_not e = sym (clear_step ∙ rw (ne_eqb x 0 e)) ∙ t.same
-
-  pub clear_end : 12 ≤ i → true ≡ all_zero (drop len xs)
-  unfolding all_zero
-  clear_end l = sym (ap all_zero (drop_of_length-le xs {i = i} (omega (arith, t.whole)))) ∙ t.same
+pub clear_past : (r : Ranks) (n : ℕ) → list_all (λ (k : Rank). nat_eq k.0 0) (drop n r.ranks) ≡ all_zero (drop n (rank_numbers r))
+unfolding rank_numbers
+clear_past r n = zeros (drop n r.ranks) ∙ ap all_zero (sym (drop-map (λ (k : Rank). k.0) n r.ranks))

@@ -1,22 +1,19 @@
 -- The sweep that takes the places of the numbers 1 to 12 in a list: the ranks of an order, and the cells of given ranks.
 -- Assumes nothing.
-use Prim.Native.Nat.{ℕ, suc, ◌-◌, ◌≤◌}
+use Prim.Native.Nat.{ℕ, suc, ◌-◌, ◌≤◌, ◌<◌}
 use native.Mathlib.Omega.{arith}
-use mathlib.Core.Path.{◌≡◌, refl, sym, ap}
+use mathlib.Core.Path.{◌≡◌, refl, sym, ap, ◌∙◌}
 use mathlib.Core.Bool.{cond}
 use mathlib.Core.Logic.{⊎_elim}
 use mathlib.Core.List.{List, ◌∷◌}
 use lib.Dec.{ltb}
 use lib.ListN.{length, take, drop, set, replicate}
+use lib.Seq.{set_out}
 use borrow.Author.Tests.{le-ltb, eq-eqb, ne_eqb}
-use Rattle.order.specs.declared.Cell.{Cell}
-use Rattle.order.specs.declared.Rank.{Rank}
 use Rattle.order.specs.Cells.{place_from, place_of, tabulate}
-use Rattle.order.proofs.Cells.{IsOrder, lt_cases}
-use Rattle.order.proofs.Tabulate.{tabulate_ext, tabulate_set}
-use Rattle.order.proofs.Numbers.{cell}
-use Rattle.ranks.specs.Steps.{with_cell}
-use Rattle.order.proofs.Sweep.{Downto, Turn, turn_by, met_low, met_high, down_none, down_more, drop_none, met_down}
+use Rattle.order.proofs.Cells.{lt_cases}
+use Rattle.order.proofs.Tabulate.{length_tabulate, tabulate_ext, tabulate_set}
+use Rattle.order.proofs.Sweep.{Downto, Turn, turn_by, down_none, down_more, drop_none, met_down}
 
 place_same : (p x : ℕ) (xs : List ℕ) → place_from p (x ∷ xs) x ≡ p
 unfolding place_from
@@ -59,29 +56,26 @@ module _ {A : Type 0} (wrap : ℕ → A) where
     on_down : Turn (Downto xs len i) xs i x
     on_down = turn_by (λ (s : Placed xs len ys i). s.down) t
 
-    -- in an order x is in range
-    module _ (o : IsOrder len (take len xs)) where
-      pub placed_low : 1 ≤ x
-      placed_low = met_low on_down o
-
-      pub placed_high : x ≤ 12
-      placed_high = omega (arith, met_high on_down o, s.down.small)
-
     placed_more : Placed xs len (cond (ltb x 1) ys (set ys (x - 1) (wrap i))) (i - 1)
     placed_more =
         let e : suc (i - 1) ≡ i = omega arith in
         record { down = down_more on_down; sofar = rw (s.sofar, met_down on_down, e) (places_more i x (drop i (take len xs))) }
 
     -- i is stored at the place of x
-    pub placed_order : IsOrder len (take len xs) → {j v : ℕ} → j ≡ x - 1 → v ≡ i → Placed xs len (set ys j (wrap v)) (i - 1)
-    placed_order o a b = rw (a, b) (rw (le-ltb x 1 (placed_low o)) at placed_more)
+    pub placed_at : 1 ≤ x → {j v : ℕ} → j ≡ x - 1 → v ≡ i → Placed xs len (set ys j (wrap v)) (i - 1)
+    placed_at l a b = rw (a, b) (rw (le-ltb x 1 l) at placed_more)
+
+    length_placed : length ys ≡ 12
+    unfolding places_from
+    length_placed = ap length s.sofar ∙ length_tabulate 12 (λ k. wrap (place_from (suc i) (drop i (take len xs)) (suc k)))
+
+    -- an x outside 1 to 12 has no place
+    pub placed_out : (1 ≤ x → 12 < x) → Placed xs len ys (i - 1)
+    placed_out h =
+        ⊎_elim (λ t. rw t.1 at placed_more)
+        (λ t. rw (t.1, set_out ys (x - 1) (wrap i) (omega (arith, length_placed))) at placed_more)
+        (lt_cases x 1)
 
   pub placed_all : {xs : List ℕ} {ys : List A} {len i : ℕ} → Placed xs len ys i → i ≤ 0 → ys ≡ tabulate 12 (λ k. wrap (place_of (take len xs) (suc k)))
   unfolding places_from place_of
   placed_all {i = i} s l = let e : i ≡ 0 = omega arith in rw e at s.sofar
-
--- cell c is stored at the place of its rank, where it has one
-pub placed_cell : {xs : List ℕ} {ys : List Cell} {len c x : ℕ} → Turn (Placed cell xs len ys c) xs c x
-    → {rank : Rank} {next : Cell} → rank.0 ≡ x → next.0 ≡ c → Placed cell xs len (with_cell ys rank next) (c - 1)
-unfolding with_cell
-placed_cell t a b = let e = ap cell b in rw (a, e) (placed_more cell t)

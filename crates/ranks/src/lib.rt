@@ -3,42 +3,26 @@
 // ranks undo each other, both ways (proofs/Determine).
 #![tactic(auto)]
 
-ghost use Rattle.std.specs.Prelude.{◌≡◌, true, ◌≤◌, drop};
-ghost use Rattle.order.specs.Cells.{is_order, all_zero};
-ghost use Rattle.order.specs.Order.{listed, told_order};
+ghost use Rattle.std.specs.Prelude.{◌≡◌, drop};
+ghost use Rattle.order.specs.Cells.{all_zero};
+ghost use Rattle.order.specs.Order.{told_order};
 ghost use Rattle.ranks.specs.Ranks.{rank_numbers, ranks_of, order_by_rank, no_ranks, told_ranks, ranks_of_order, order_of_ranks};
-ghost use Rattle.ranks.specs.Steps.{with_cell};
 
-use order::{Cell, Order, OrderAnswer, Outcome, Rank, Refusal};
+use order::{Cell, Checked, Order, Rank, Refusal, Size};
 
-// The rank of cell c at index c - 1. Indices from `len` on hold `Rank(0)`.
-#[derive(Clone, Copy)]
+// The rank of cell c at index c - 1. Indices from `len` on hold `Rank(0)`. A length beside fixed places: see `order::Order`.
+#[derive(Clone, Copy, PartialEq, Eq)]
 pub struct Ranks {
     pub len: usize,
     pub ranks: [Rank; 12],
 }
 
-#[derive(Clone, Copy)]
-pub struct RanksAnswer {
-    pub outcome: Outcome,
-    pub ranks: Ranks,
-}
-
 // The inverse of an order.
-pub fn ranks_of(o: Order) -> RanksAnswer
+#[tactic(auto, unfolding(order::specs::Refusals::number_of, order::specs::Refusals::answer, crate::specs::Ranks::ranks_of_order))]
+pub fn ranks_of(o: Order) -> Result<Ranks, Refusal>
     ensures { told_ranks result ≡ ranks_of_order o }
 {
-    let outcome = order::check_order(o);
-    let Outcome::Done = outcome else {
-        return RanksAnswer {
-            outcome,
-            ranks: zero_ranks(),
-        };
-    };
-    RanksAnswer {
-        outcome: Outcome::Done,
-        ranks: ranks_by_sweep(o),
-    }
+    Ok(ranks_by_sweep(Checked::new(o)?))
 }
 
 // The all-zero record of ranks: no cells.
@@ -52,93 +36,51 @@ pub fn zero_ranks() -> Ranks
 }
 
 // The rank of each cell: a sweep from the last place to the first.
-fn ranks_by_sweep(o: Order) -> Ranks
-    requires { (o.len ≤ 12) × (is_order o.len (listed o) ≡ true) }
-    ensures { result ≡ ranks_of o }
+#[tactic(auto, using(crate::proofs::RankNumbers::cell_met))]
+fn ranks_by_sweep(checked: Checked) -> Ranks
+    ensures { result ≡ ranks_of checked.order }
 {
+    let o = checked.order;
     let n = o.len;
     let mut ranks = [Rank(0); 12];
-    let mut i = n;
-    while 0 < i {
-        let c = o.cells[i - 1].number();
-        ranks[c - 1] = Rank(i as u8);
-        i -= 1;
+    for i in (0..n).rev() {
+        ranks[o.cells[i].number() - 1] = Rank(i as u8 + 1);
     }
-    Ranks {
-        len: n,
-        ranks: ranks,
-    }
+    Ranks { len: n, ranks }
 }
 
 // The order of given ranks. Ranks are 1 to n, each once, where their inverse lists each cell once.
-pub fn from_ranks(r: Ranks) -> OrderAnswer
+#[tactic(auto, using(crate::proofs::Determine::ranks_listing), unfolding(order::specs::Refusals::number_of, order::specs::Refusals::answer, crate::specs::Ranks::order_of_ranks))]
+pub fn from_ranks(r: Ranks) -> Result<Order, Refusal>
     ensures { told_order result ≡ order_of_ranks r }
 {
-    let n = r.len;
-    if !order::is_size(n) {
-        return order::no_order(Refusal::Size);
+    let size = Size::new(r.len)?;
+    let found = cells_by_sweep(r, size);
+    if !order::is_order(found, r.len) || !ranks_are_clear_past(r, size) {
+        return Err(Refusal::NoOrder);
     }
-    let found = cells_by_sweep(r);
-    if !order::is_order(found, n) {
-        return order::no_order(Refusal::NoOrder);
-    }
-    if !ranks_are_clear_past(r) {
-        return order::no_order(Refusal::NoOrder);
-    }
-    OrderAnswer {
-        outcome: Outcome::Done,
-        order: found,
-    }
+    Ok(found)
 }
 
-// Whether the places past the length hold no rank.
-fn ranks_are_clear_past(r: Ranks) -> bool
-    requires { r.len ≤ 12 }
-    ensures { result ≡ all_zero (drop r.len (rank_numbers r)) }
+// Whether the places past so many cells hold no rank.
+fn ranks_are_clear_past(r: Ranks, size: Size) -> bool
+    ensures { result ≡ all_zero (drop size.cells (rank_numbers r)) }
 {
-    let mut i = r.len;
-    while i < 12 {
-        if r.ranks[i].0 != 0 {
-            return false;
-        }
-        i += 1;
-    }
-    true
+    r.ranks[size.cells..].iter().all(|rank| rank.0 == 0)
 }
 
-// The cell of each rank: a sweep from the last cell to the first.
-fn cells_by_sweep(r: Ranks) -> Order
-    requires { r.len ≤ 12 }
-    ensures { result ≡ order_by_rank r }
+// The cell of each rank among those of so many cells: a sweep from the last cell to the first, so that of two cells of one rank the first stays. A rank outside 1 to 12
+// has no place.
+fn cells_by_sweep(r: Ranks, size: Size) -> Order
+    ensures { result ≡ order_by_rank (record { len = size.cells; ranks = r.ranks }) }
 {
-    let n = r.len;
+    let n = size.cells;
     let mut cells = [Cell(0); 12];
-    let mut c = n;
-    while 0 < c {
-        let rank = r.ranks[c - 1];
-        let cell = Cell(c as u8);
-        let next = with_cell_ranked(cells, rank, cell);
-        cells = next;
-        c -= 1;
+    for i in (0..n).rev() {
+        let rank = r.ranks[i].number();
+        if (1..=12).contains(&rank) {
+            cells[rank - 1] = Cell(i as u8 + 1);
+        }
     }
-    Order {
-        len: n,
-        cells: cells,
-    }
-}
-
-// The cells with a cell at the place of its rank. A rank outside 1 to 12 has no place.
-fn with_cell_ranked(cells: [Cell; 12], rank: Rank, cell: Cell) -> [Cell; 12]
-    ensures { result ≡ with_cell cells rank cell }
-{
-    let k = rank.number();
-    if k < 1 {
-        return cells;
-    }
-    if 12 < k {
-        return cells;
-    }
-    let mut next = cells;
-    next[k - 1] = cell;
-    next
+    Order { len: n, cells }
 }

@@ -1,4 +1,3 @@
 pub mod Told
 pub mod Bytes
 pub mod Cut
-pub mod Fields

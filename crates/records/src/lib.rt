@@ -3,19 +3,18 @@
 #![tactic(auto)]
 
 ghost use Rattle.std.specs.Prelude.{◌≡◌};
-ghost use Rattle.order.specs.Refusals.{outcome_number};
-ghost use Rattle.plain_machine.specs.Machine.{apply_of};
-ghost use Rattle.records.specs.Records.{uses_cell, unused_zero, request_of, told_answered, group_alone, call_of, after_apply, after_open, opening, step_of};
+ghost use Rattle.sharing.specs.Shared.{plain_target};
+ghost use Rattle.records.specs.Records.{uses_cell, uses_value, unused_zero, request_of, told_answered, call_of, step_of};
 
 use group::Group;
-use order::{Cell, Outcome, Refusal};
+use order::{Cell, Refusal};
 use plain_machine::{Call, Kind};
 
 // The endurance of every group that a record opens.
 const ENDURANCE: u32 = 1000000;
 
-// A call record: its two zero bytes are one field.
-#[derive(Clone, Copy)]
+// A call record: its two zero bytes are one field. The kind is the byte that document 01 gives it, since a record may have any byte there; `Request` names it.
+#[derive(Clone, Copy, PartialEq, Eq)]
 pub struct CallRecord {
     pub kind: u8,
     pub cell: Cell,
@@ -23,126 +22,105 @@ pub struct CallRecord {
     pub value: u32,
 }
 
-// What the program keeps of an answer: the verdict and the pushes are in no line.
-#[derive(Clone, Copy)]
+// What the program keeps of an accepted answer: the verdict and the pushes are in no line.
+#[derive(Clone, Copy, PartialEq, Eq)]
 pub struct Answered {
-    pub outcome: Outcome,
     pub group: Group,
     pub symbol: u32,
     pub pulses: u32,
 }
 
+impl Answered {
+    // A group and nothing else: what an open keeps, and what a refused record leaves.
+    pub fn alone(group: Group) -> Answered
+        ensures { result ≡ record { group = group; symbol = 0; pulses = 0 } }
+    {
+        Answered {
+            group,
+            symbol: 0,
+            pulses: 0,
+        }
+    }
+}
+
 // What a record asks for. No record asks for a write.
-#[derive(Clone, Copy)]
+#[derive(Clone, Copy, PartialEq, Eq)]
 pub enum Request {
-    Bad,
     Open(u32),
     Apply(Kind),
 }
 
-// The answer to a record, for the group that the record before it left. A refused open keeps that group.
-pub fn step(g: Group, r: CallRecord) -> Answered
-    ensures { told_answered result ≡ step_of g r }
+// The answer to a record, for the group that the record before it left. A refused one, also a refused open, keeps that group. A call record names no endurance.
+#[tactic(auto, unfolding(crate::specs::Records::step_of))]
+pub fn step(g: Group, r: CallRecord) -> Result<Answered, Refusal>
+    ensures { told_answered g result ≡ step_of g r }
 {
-    let request = request_of(r);
-    match request {
-        Request::Bad => alone(Outcome::Refused(Refusal::BadRecord), g),
-        Request::Open(n) => open(g, n),
-        Request::Apply(kind) => apply(g, kind),
+    match Request::try_from(r)? {
+        Request::Open(n) => {
+            let group = changes::open(n as usize, ENDURANCE)?;
+            Ok(Answered::alone(group))
+        }
+        Request::Apply(kind) => {
+            let applied = plain_machine::apply(g, call_of(kind))?;
+            Ok(Answered {
+                group: applied.group,
+                symbol: applied.symbol,
+                pulses: applied.pulses,
+            })
+        }
     }
 }
 
-fn request_of(r: CallRecord) -> Request
-    ensures { result ≡ request_of r }
-{
-    if !unused_zero(r) {
-        return Request::Bad;
-    }
-    let cell = r.cell;
-    let value = r.value;
-    let kind = r.kind;
-    match kind {
-        0 => Request::Open(value),
-        1 => Request::Apply(Kind::Store(value)),
-        2 => Request::Apply(Kind::Scrub),
-        3 => Request::Apply(Kind::Leak(cell, value)),
-        4 => Request::Apply(Kind::Wear(cell, value)),
-        5 => Request::Apply(Kind::Erase),
-        6 => Request::Apply(Kind::Read),
-        _ => Request::Bad,
+// What a record asks for; a bad one is refused.
+impl TryFrom<CallRecord> for Request {
+    type Error = Refusal;
+
+    ghost try_from_gives = { λ r answer. answer ≡ request_of r };
+
+    #[tactic(auto, unfolding(crate::specs::Records::request_of))]
+    fn try_from(r: CallRecord) -> Result<Request, Refusal> {
+        if !unused_zero(r) {
+            return Err(Refusal::BadRecord);
+        }
+        match r.kind {
+            0 => Ok(Request::Open(r.value)),
+            1 => Ok(Request::Apply(Kind::Store(r.value))),
+            2 => Ok(Request::Apply(Kind::Scrub)),
+            3 => Ok(Request::Apply(Kind::Leak(r.cell, r.value))),
+            4 => Ok(Request::Apply(Kind::Wear(r.cell, r.value))),
+            5 => Ok(Request::Apply(Kind::Erase)),
+            6 => Ok(Request::Apply(Kind::Read)),
+            _ => Err(Refusal::BadRecord),
+        }
     }
 }
 
-// Whether the fields that a kind does not use are 0. The kinds that have a cell have a value too.
+// Whether the fields that a kind does not use are 0.
+#[tactic(auto, unfolding(crate::specs::Records::unused_zero))]
 fn unused_zero(r: CallRecord) -> bool
     ensures { result ≡ unused_zero r }
 {
-    if r.reserved != 0 {
-        return false;
-    }
-    let kind = r.kind;
-    if uses_cell(kind) {
-        return true;
-    }
-    let cell = r.cell;
-    if cell.0 != 0 {
-        return false;
-    }
-    if kind <= 1 {
-        return true;
-    }
-    r.value == 0
+    r.reserved == 0 && (uses_cell(r.kind) || r.cell.0 == 0) && (uses_value(r.kind) || r.value == 0)
 }
 
 fn uses_cell(kind: u8) -> bool
     ensures { result ≡ uses_cell kind }
 {
-    if kind == 3 {
-        return true;
-    }
-    kind == 4
+    kind == 3 || kind == 4
 }
 
-// A new group, or the group that there was. A call record names no endurance.
-fn open(g: Group, n: u32) -> Answered
-    ensures { told_answered result ≡ after_open g (opening n) }
+fn uses_value(kind: u8) -> bool
+    ensures { result ≡ uses_value kind }
 {
-    let opened = changes::open(n as usize, ENDURANCE);
-    let outcome = opened.outcome;
-    let fresh = opened.group;
-    if let Outcome::Done = outcome {
-        return alone(outcome, fresh);
-    }
-    alone(outcome, g)
+    kind <= 1 || uses_cell(kind)
 }
 
-// A call of the plain machine: what the program keeps of its answer.
-fn apply(g: Group, kind: Kind) -> Answered
-    ensures { told_answered result ≡ after_apply (apply_of g (call_of kind)) }
+// The call of the machine: none is a write, so the order beside it is the all-zero one.
+fn call_of(kind: Kind) -> Call
+    ensures { result ≡ call_of kind }
 {
-    let call = Call {
+    Call {
         kind,
         target: plain_machine::plain_target(order::zero_order()),
-    };
-    let answer = plain_machine::apply(g, call);
-    let outcome = answer.outcome;
-    let group = answer.group;
-    Answered {
-        outcome,
-        group,
-        symbol: answer.symbol,
-        pulses: answer.pulses,
-    }
-}
-
-// An answer with the group and nothing else.
-fn alone(outcome: Outcome, group: Group) -> Answered
-    ensures { told_answered result ≡ record { number = outcome_number outcome; value = group_alone group } }
-{
-    Answered {
-        outcome,
-        group,
-        symbol: 0,
-        pulses: 0,
     }
 }

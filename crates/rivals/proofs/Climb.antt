@@ -53,13 +53,10 @@ peak_last old p c =
 -- a cell that comes to stand first is as high as it was, or one above the one below it
 module _ (old : List ℕ) (p c : ℕ) (cs : List ℕ) (new : count c cs ≡ 0) (h : ℕ) (k : Peak old (suc p) cs h) where
   peak_over : (x : ℕ) → 1 ≤ count x (c ∷ cs) → level old x + place_from p (c ∷ cs) x ≤ max (level old c) (h + 1) + p
-  peak_over x l =
-      ⊎_elim (λ t. omega (arith, ap (level old) t.0, ap (place_from p (c ∷ cs)) t.0, place_here p c cs))
-      (λ t. omega (arith, place_later p x c cs t.0, k.over x (omega (arith, tally-ne c x t.0))))
-      (eq_cases c x)
+  peak_over x l = grind (arith, place_here, place_later, tally-ne, eq_cases)
 
   other : c ≡ k.cell → ⊥
-  other e = omega (arith, ap (λ (x : ℕ). count x cs) e, k.listed)
+  other e = grind arith
 
   peak_more : Peak old p (c ∷ cs) (max (level old c) (h + 1))
   peak_more =

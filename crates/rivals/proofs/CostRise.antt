@@ -7,7 +7,7 @@
 use Prim.Native.Nat.{ℕ, zero, suc, ◌+◌, ◌-◌, ◌≤◌, ◌<◌}
 use native.Mathlib.Nat.{not-suc-le-zero, le_of_suc-le-suc, le_antisymm}
 use native.Mathlib.Omega.{arith}
-use mathlib.Core.Path.{◌≡◌, sym, ap, ◌∙◌}
+use mathlib.Core.Path.{◌≡◌, ap, ◌∙◌}
 use mathlib.Core.Bool.{true}
 use mathlib.Core.List.{List, [], ◌∷◌}
 use lib.ListN.{length, get_or}
@@ -129,9 +129,7 @@ module _ (n : ℕ) (u v ls : List ℕ) (low : 1 ≤ n) (p : is_order n u ≡ tru
 
   displaced_there : displacement u v peak.cell ≡ pos (h - n)
   unfolding displacement place_of
-  displaced_there =
-      sub_rise (place_of v peak.cell) (place_of u peak.cell) (h - n)
-      (omega (arith, peak.there, stair_rank n u p ls s peak.cell peak_range.0 peak_range.1, not_lower))
+  displaced_there = grind (arith, sub_rise, peak, stair_rank, peak_range, not_lower)
 
   cost_is : cost n u v ≡ pos (h - n)
   cost_is =
@@ -141,4 +139,4 @@ module _ (n : ℕ) (u v ls : List ℕ) (low : 1 ≤ n) (p : is_order n u ≡ tru
 
   -- the cost is the rise of the top level
   pub cost_is_rise : cost n u v ≡ sub_ℕ (top_level n (written v ls)) (top_level n ls)
-  cost_is_rise = rw (top_before, top_after) (cost_is ∙ sym (sub_rise h n (h - n) (omega (arith, not_lower))))
+  cost_is_rise = grind (arith, top_before, top_after, cost_is, sub_rise, not_lower)

@@ -5,8 +5,8 @@
 -- Assumes nothing.
 use Prim.Native.Nat.{ℕ, zero, suc, ◌+◌, ◌≤◌}
 use mathlib.Core.Path.{◌≡◌, refl, sym, ap, ◌∙◌}
-use mathlib.Core.Bool.{Bool, true, false, false≢true}
-use mathlib.Core.Logic.{◌⊎◌, inl, inr, ⊎_elim}
+use mathlib.Core.Bool.{Bool, true, false}
+use mathlib.Core.Logic.{◌⊎◌, inl, inr}
 use mathlib.Core.List.{List, [], ◌∷◌}
 use native.Mathlib.Nat.{add-zero, add_assoc, zero-add, le_refl}
 use native.Mathlib.Omega.{arith}
@@ -16,7 +16,7 @@ use Rattle.order.proofs.Refusals.{all_hold, check_holds, told_done}
 use Rattle.group.specs.declared.Group.{Group}
 use Rattle.group.specs.Levels.{AtMost, rises, sum}
 use Rattle.group.specs.Record.{is_endurance, opened, no_group, IsGroup}
-use Rattle.push_up.specs.WriteAnswer.{raised, fits, lasts, push_checks, pushed}
+use Rattle.push_up.specs.WriteAnswer.{raised, lasts, push_checks, pushed}
 use Rattle.changes.specs.Changes.{open_checks, open_of}
 use Rattle.group.proofs.Levels.{at_most_refl, at_most_trans, sum_mono, rises_up, rises_down, leaked_loss}
 use Rattle.group.proofs.LevelRows.{all_below}
@@ -178,7 +178,7 @@ our_answer (suc k) g q c h e = rw (rises_down (at_most_refl g.levels), add-zero)
 our_step : (g : Group) (q : ℕ) (c : Call) → IsGroup g
     → Moves (apply_of g c).number c.kind (target g c) (standing g q)
     (standing (apply_of g c).value.group (q + rises g.levels (apply_of g c).value.group.levels))
-our_step g q c h = rw (apply_number g c, apply_value g c) (our_answer (number_of (checks g c)) g q c h refl)
+our_step g q c h = grind (arith, apply_number, apply_value, our_answer)
 
 our_course : (g : Group) (q : ℕ) (cs : List Call) → IsGroup g → Course apply_of g g (standing g q) cs (own apply_of g q cs)
 unfolding own
@@ -230,12 +230,10 @@ module _ (g : Group) (h : IsGroup g) (cs : List Call) where
       (own apply_of g 0 cs, our_course g 0 cs h, _, rw (← our_end g 0 cs h) at (our_raise true now (0 + so_far) c (group_after_lem g cs h) w e))
 
   not_open : (c : Call) → writes c.kind ≡ true → number_of (earlier_checks now c) ≡ 0 → is_worn_or_spent (apply_of now c).number ≡ true → ¬ (Open c)
-  not_open c w e stuck k = false≢true (rw (apply_number now c, done_pushes now c w e (open_passes c k)) at stuck)
+  not_open c w e stuck k = grind (arith, apply_number, done_pushes, open_passes)
 
   shut_stuck : (c : Call) → writes c.kind ≡ true → number_of (earlier_checks now c) ≡ 0 → ¬ (Open c) → is_worn_or_spent (apply_of now c).number ≡ true
-  shut_stuck c w e shut =
-      ⊎_elim (λ f. absurd (shut (done_open c w (done_pushes now c w e f)))) (λ f. rw (apply_number now c, last_decide now c w e) f)
-      (done_or_stuck (fits now (target now c)) (lasts now (target now c)))
+  shut_stuck c w e shut = grind (arith, done_open, done_pushes, apply_number, last_decide, done_or_stuck)
 
   pub demand3 : Demand3 apply_of g cs
   unfolding entrant

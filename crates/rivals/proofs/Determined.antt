@@ -11,7 +11,6 @@ use lib.Dec.{ltb}
 use borrow.Author.Tests.{le-leb}
 use Rattle.order.specs.declared.Refusal.TheVariants.{NoCell, Blank, Lost}
 use Rattle.order.specs.Refusals.{number_of}
-use Rattle.order.specs.Cells.{is_cell}
 use Rattle.order.specs.Order.{no_order}
 use Rattle.order.proofs.Refusals.{all_held, check_held, check_holds, check_fails, later_decide, all_hold}
 use Rattle.group.specs.declared.Group.{Group}
@@ -36,9 +35,7 @@ abbrev reading : Call
 reading = record { kind = Read; target = plain_target no_order }
 
 leak_held : (g : Group) (k : ℕ) → number_of (checks g (leaking k)) ≡ 0 → (number_of (group_checks g) ≡ 0) × (k ≤ g.n)
-leak_held g k e =
-    let t = all_held _ (group_checks g) e in
-    (t.0, (cell_true g.n k (check_held (is_cell g.n k) NoCell [] t.1).0).1)
+leak_held g k e = search (arith, all_held, cell_true, check_held)
 
 module _ (g : Group) (d : number_of (group_checks g) ≡ 0) where
   leak_holds : number_of (checks g (leaking g.n)) ≡ 0
@@ -155,25 +152,19 @@ module _ (run : Machine) where
 
     same_levels : (after run start cs).levels ≡ (after apply_of start cs).levels
     unfolding entrant
-    same_levels =
-        let above = rw (our_end start 0 cs group) at (theirs.lowest (own apply_of start 0 cs) our_rival) in
-        let below = rw (own_end start 0 cs).0 at (ours.lowest (own run start 0 cs) their_rival) in
-        at_most_antisym above below
+    same_levels = search (arith, our_end, group, theirs, our_rival, own_end, ours, their_rival, at_most_antisym)
 
     same_caps : (after run start cs).caps ≡ (after apply_of start cs).caps
     unfolding entrant
-    same_caps = sym (own_end start 0 cs).1 ∙ (side start group cs (own run start 0 cs) their_rival).caps
+    same_caps = search (arith, own_end, side, group, their_rival)
 
     same_used : (after run start cs).used ≡ (after apply_of start cs).used
     unfolding entrant
-    same_used =
-        let above = rw (our_end start 0 cs group) at (theirs.least_used (own apply_of start 0 cs) our_rival) in
-        let below = rw (own_end start 0 cs).2 at (ours.least_used (own run start 0 cs) their_rival) in
-        at_most_antisym above below
+    same_used = search (arith, our_end, group, theirs, our_rival, own_end, ours, their_rival, at_most_antisym)
 
     same_endurance : (after run start cs).endurance ≡ (after apply_of start cs).endurance
     unfolding entrant
-    same_endurance = sym (own_end start 0 cs).3 ∙ (side start group cs (own run start 0 cs) their_rival).endurance
+    same_endurance = search (arith, own_end, side, group, their_rival)
 
     pub same_group : after run start cs ≡ after apply_of start cs
     same_group =
@@ -182,17 +173,10 @@ module _ (run : Machine) where
         λ i. record { n = size i; levels = same_levels i; caps = same_caps i; used = same_used i; endurance = same_endurance i; written = mark i }
 
     pub same_pulses : pulses_of run start cs ≡ pulses_of apply_of start cs
-    same_pulses =
-        omega (
-          arith,
-          theirs.exact,
-          ours.exact,
-          theirs.cheapest (own apply_of start 0 cs) our_rival,
-          ours.cheapest (own run start 0 cs) their_rival,
-        )
+    same_pulses = search (arith, theirs, ours, our_rival, their_rival)
 
     same_number : (c : Call) → (run (after run start cs) c).number ≡ (apply_of (after apply_of start cs) c).number
-    same_number c = theirs.answered c ∙ same_checks c ∙ sym (apply_number (after apply_of start cs) c)
+    same_number c = search (arith, theirs, same_checks, apply_number)
 
   -- ---- the answer to the next call
 

@@ -41,10 +41,7 @@ no_dearer_raised (cell {u} {l} {v} {m} h k p) (more {y = l'} a q) (more {y = m'}
 -- a lower level loses no more
 set_leaked : {us ls vs ms : List ℕ} (i d : ℕ) → NoDearer us ls vs ms → NoDearer us (set ls i (get_or ls i 0 - d)) vs (set ms i (get_or ms i 0 - d))
 set_leaked i d none = none
-set_leaked zero d (cell {u} {l} {v} {m} h k p) =
-    let low : l - d ≤ m - d = omega arith in
-    let less : u + (m - d) ≤ v + (l - d) = omega arith in
-    cell low less p
+set_leaked zero d (cell {u} {l} {v} {m} h k p) = grind (arith, cell)
 set_leaked (suc i) d (cell h k p) = cell h k (set_leaked i d p)
 
 pub no_dearer_leaked : {us ls vs ms : List ℕ} (c d : ℕ) → NoDearer us ls vs ms → NoDearer us (leaked c d ls) vs (leaked c d ms)

@@ -8,7 +8,7 @@ use mathlib.Core.Path.{◌≡◌, refl, sym, ap, ◌∙◌}
 use mathlib.Core.Bool.{true, false, cond, ◌&&◌}
 use mathlib.Core.List.{List, [], ◌∷◌, flatten}
 use native.Mathlib.Omega.{arith}
-use lib.Dec.{lit<, lit≤, eqb, leb, ltb}
+use lib.Dec.{lit≤, eqb, leb, ltb}
 use lib.ListN.{get_or, replicate}
 use Rattle.order.specs.declared.Order.{Order}
 use Rattle.order.specs.Refusals.{number_of, Told, answer}
@@ -56,17 +56,7 @@ course = record { levels = least; caps = start.caps; used = least; endurance = 1
 
 course_raised : Raised (target start call) (entrant start) course
 unfolding entrant order_record cell_numbers singles Shows Reach floor_over top at_most rises tallied all_at_most level
-course_raised =
-    record {
-      no_lower = at_most_true _ _ refl;
-      shows = ((lit≤ tt, tt), ((lit≤ tt, tt), ((lit≤ tt, tt), tt)));
-      within = at_most_true _ _ refl;
-      same_caps = refl;
-      tallies = refl;
-      lasting = refl;
-      same_endurance = refl;
-      pulses = refl;
-    }
+course_raised = search (arith, at_most_true)
 
 module _ (run : Machine) where
   -- one list of calls is enough
@@ -140,7 +130,7 @@ eager = otherwise (λ g c. altered (λ h. with_levels h (put h.levels 1 (level h
 
 pub eager_refuted : ¬ (MeetsDemand3 eager)
 unfolding eager level put
-eager_refuted = high_refuted eager (rw plain_answer.0) (λ p. let high = rw (plain_answer.0, plain_answer.1) at (at_most_level 1 p) in omega arith)
+eager_refuted = search (arith, high_refuted, eager, plain_answer, at_most_level)
 
 -- one that reports more pulses than it spent
 pub boaster : Machine
@@ -148,7 +138,7 @@ boaster = otherwise (λ g c. altered (λ h. h) (λ k. k + 1))
 
 pub boaster_refuted : ¬ (MeetsDemand3 boaster)
 unfolding boaster
-boaster_refuted = dear_refuted boaster (rw plain_answer.0) (rw (plain_answer.0, plain_answer.2) (lit< tt))
+boaster_refuted = search (arith, dear_refuted, boaster, plain_answer)
 
 -- one that reports no pulses
 pub silent : Machine
@@ -184,16 +174,7 @@ pub climber_refuted : ¬ (MeetsDemand3 climber)
 unfolding climber flatten to_the_top latest after plain_after entrant Moves Follows apply_of write_of answer pushed rises tallied number_of is_row all_at_most order_record cell_numbers is_order_of is_listing is_order each_once all_zero fits lasts raised raise lift singles floor_over top level put at_most Shows Reach
 climber_refuted =
     let second : Raised (singles (1 ∷ 3 ∷ 2 ∷ [])) course second_course =
-    record {
-      no_lower = at_most_true _ _ refl;
-      shows = ((lit≤ tt, tt), ((lit≤ tt, tt), ((lit≤ tt, tt), tt)));
-      within = at_most_true _ _ refl;
-      same_caps = refl;
-      tallies = refl;
-      lasting = refl;
-      same_endurance = refl;
-      pulses = refl;
-    } in
+    search (arith, at_most_true) in
     fails climber (call ∷ second_call ∷ [])
     (λ d.
     let high = at_most_level 1 (d.lowest (course ∷ second_course ∷ []) (next course_raised (next second rest))) in
@@ -253,16 +234,7 @@ stacker_refuted =
     fails stacker (shared_call ∷ [])
     (λ d.
     let shown : Raised (target start shared_call) (entrant start) shared_course =
-    record {
-      no_lower = at_most_true _ _ refl;
-      shows = ((lit≤ tt, (lit≤ tt, tt)), ((lit≤ tt, tt), tt));
-      within = at_most_true _ _ refl;
-      same_caps = refl;
-      tallies = refl;
-      lasting = refl;
-      same_endurance = refl;
-      pulses = refl;
-    } in
+    search (arith, at_most_true) in
     let high = at_most_level 2 (d.lowest (shared_course ∷ []) (next shown rest)) in
     omega arith)
 

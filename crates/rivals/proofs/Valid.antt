@@ -6,11 +6,10 @@
 -- Assumes nothing.
 use Prim.Native.Nat.{ℕ, zero, suc, ◌-◌, ◌<◌, ◌≤◌, zero-le}
 use mathlib.Core.Path.{◌≡◌, refl, ◌∙◌}
-use mathlib.Core.Logic.{◌≢◌, ◌⊎◌, inl, inr, ⊎_elim}
+use mathlib.Core.Logic.{◌≢◌, ◌⊎◌, inl, inr}
 use mathlib.Core.Bool.{Bool, true, false}
 use mathlib.Core.List.{List, [], ◌∷◌, ◌++◌}
 use native.Mathlib.Omega.{arith}
-use lib.Dec.{lit<}
 use lib.ListN.{length, get_or, replicate, length-take}
 use borrow.Author.Tests.{lt-ltb, le-leb, lt-leb}
 use Rattle.code.specs.Symbols.{word_of}
@@ -24,9 +23,8 @@ use Rattle.order.proofs.Refusals.{all_hold, check_holds, check_fails, later_deci
 use Rattle.order.proofs.Check.{order_parts}
 use Rattle.order.proofs.Records.{recorded_order}
 use Rattle.coordinates.specs.Coordinates.{order_from}
-use Rattle.coordinates.specs.Conversion.{coordinate_at}
 use Rattle.coordinates.proofs.RoundTrip.{order_of_any}
-use Rattle.code.specs.Words.{K, word_at}
+use Rattle.code.specs.Words.{K}
 use Rattle.group.specs.declared.Group.{Group}
 use Rattle.group.specs.Levels.{level, put, at_most, tallied}
 use Rattle.push_up.specs.PushUp.{singles, top, floor_over, lift, raise}
@@ -69,19 +67,19 @@ other_number ((false, r) ∷ list) e = inr e.0
 
 module _ (g : Group) (e : number_of (group_checks g) ≡ 0) where
   past : (list : List (Bool × Refusal)) → Each (λ (k : Bool × Refusal). 2 < refusal_number k.1) list → Other (number_of (group_checks g ++ list))
-  past list h = rw (later_decide list (group_checks g) e) (other_number list h)
+  past list h = search (arith, later_decide, other_number)
 
   other_by : (a : Ranked) (k : Kind) → Other (number_of (checks_by g a k))
-  other_by a Write = past _ (lit< tt, (lit< tt, (lit< tt, tt)))
-  other_by a (WriteInto room) = past _ (lit< tt, (lit< tt, (lit< tt, (lit< tt, tt))))
-  other_by a WriteShared = past _ (lit< tt, (lit< tt, (lit< tt, (lit< tt, tt))))
-  other_by a (WriteSharedInto room) = past _ (lit< tt, (lit< tt, (lit< tt, (lit< tt, (lit< tt, tt)))))
-  other_by a (Store s) = past _ (lit< tt, (lit< tt, (lit< tt, tt)))
-  other_by a Scrub = past _ (lit< tt, (lit< tt, (lit< tt, (lit< tt, tt))))
-  other_by a (Leak c d) = past _ (lit< tt, tt)
-  other_by a (Wear c cap) = past _ (lit< tt, (lit< tt, tt))
+  other_by a Write = search (arith, past)
+  other_by a (WriteInto room) = search (arith, past)
+  other_by a WriteShared = search (arith, past)
+  other_by a (WriteSharedInto room) = search (arith, past)
+  other_by a (Store s) = search (arith, past)
+  other_by a Scrub = search (arith, past)
+  other_by a (Leak c d) = search (arith, past)
+  other_by a (Wear c cap) = search (arith, past)
   other_by a Erase = inl e
-  other_by a Read = past _ (lit< tt, (lit< tt, tt))
+  other_by a Read = search (arith, past)
 
 -- the group after any list of calls passes the checks of a record, and no next call is refused by them
 module _ (g : Group) (b : Begun g) (cs : List Call) where
@@ -89,13 +87,13 @@ module _ (g : Group) (b : Begun g) (cs : List Call) where
   passes_after = (group_after_lem g cs (begun_group b)).passes
 
   other_after : (c : Call) → Other (apply_of (after apply_of g cs) c).number
-  other_after c = rw (apply_number (after apply_of g cs) c) (other_by (after apply_of g cs) passes_after c.target c.kind)
+  other_after c = grind (arith, apply_number, other_by, passes_after)
 
   pub never_size : (c : Call) → (apply_of (after apply_of g cs) c).number ≢ 1
-  never_size c e = ⊎_elim (λ z. omega arith) (λ z. omega arith) (other_after c)
+  never_size c e = grind (arith, other_after)
 
   pub never_no_group : (c : Call) → (apply_of (after apply_of g cs) c).number ≢ 2
-  never_no_group c e = ⊎_elim (λ z. omega arith) (λ z. omega arith) (other_after c)
+  never_no_group c e = grind (arith, other_after)
 
 -- ---- every order fits an opened group
 
@@ -195,7 +193,7 @@ module _ (n e : ℕ) (size : is_size n ≡ true) (range : is_endurance e ≡ tru
 
   -- such an order is there: 1 to n, and rank sizes for it, all of them 1
   pub some_order : is_order_of n (order_record (order_from (λ i. 0) n)) ≡ true
-  some_order = let s = size_true n size in recorded_order n (order_from (λ i. 0) n) (order_of_any (λ i. 0) n) s.0 s.1
+  some_order = grind (arith, size_true, recorded_order, order_of_any)
 
   pub some_ranks : (o : Order) → is_sizes n (ones_target n o) ≡ true
   some_ranks o = ones_sizes n o (size_true n size).1
@@ -203,10 +201,10 @@ module _ (n e : ℕ) (size : is_size n ≡ true) (range : is_endurance e ≡ tru
   module _ (enough : n - 1 ≤ e) (s : ℕ) (l : s < K n) where
     word_passes : number_of (push_checks (opened n e) (singles (word_of n s))) ≡ 0
     unfolding word_of
-    word_passes = opened_passes n e size enough (word_of n s) (order_of_any (coordinate_at (word_at n s)) n)
+    word_passes = grind (arith, opened_passes, order_of_any)
 
     store_checks_lem : number_of (checks (opened n e) (storing s)) ≡ 0
-    store_checks_lem = done_pushes (opened n e) (storing s) refl (one_check _ _ (lt-ltb s (K n) l)) word_passes
+    store_checks_lem = search (arith, done_pushes, one_check, lt-ltb, word_passes)
 
     pub first_store : (apply_of (opened n e) (storing s)).number ≡ 0
     first_store = apply_number (opened n e) (storing s) ∙ store_checks_lem

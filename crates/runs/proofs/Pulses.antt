@@ -16,7 +16,9 @@ use Rattle.plain_machine.specs.Machine.{apply_of}
 use Rattle.plain_machine.proofs.Machine.{apply_rises}
 use Rattle.records.specs.declared.CallRecord.{CallRecord}
 use Rattle.records.specs.declared.Request.{Request}
-use Rattle.records.specs.declared.Request.TheVariants.{Bad, Open, Apply}
+use Rattle.records.specs.declared.Request.TheVariants.{Open, Apply}
+use Rattle.std.specs.Prelude.{Result, Ok, Err}
+use Rattle.order.specs.declared.Refusal.{Refusal}
 use Rattle.records.specs.Records.{Answer, request_of, call_of, step_by, step_of}
 use Rattle.runs.specs.Text.{all_pulses}
 use Rattle.runs.proofs.Course.{Begun, by_request, request_begun, step_begun}
@@ -26,10 +28,10 @@ unfolding all_at_most
 begun_levels g (inl e) = rw e (refl, refl)
 begun_levels g (inr h) = (row_true 4095 g.n g.levels (checked_levels g h.passes), h.levels)
 
-request_pulses : (g : Group) (q : Request) → Begun g → Begun (step_by g q).value.group → (step_by g q).value.pulses ≤ 49140
-request_pulses g Bad b n = omega arith
-request_pulses g (Open k) b n = omega arith
-request_pulses g (Apply kind) b n =
+request_pulses : (g : Group) (q : Result Request Refusal) → Begun g → Begun (step_by g q).value.group → (step_by g q).value.pulses ≤ 49140
+request_pulses g (Err refusal) b n = omega arith
+request_pulses g (Ok (Open k)) b n = omega arith
+request_pulses g (Ok (Apply kind)) b n =
     let new : Group = (apply_of g (call_of kind)).value.group in
     omega (arith, apply_rises g (call_of kind) (begun_levels g b).1, rises_most g.levels new.levels (begun_levels new n).0, (begun_levels g b).1)
 

@@ -14,18 +14,19 @@ use group::Group;
 const MOST: usize = 65536;
 
 // The most pulses that a record's answer can hold.
-const MOST_PULSES: u64 = 4294967295;
+const MOST_PULSES: u64 = u32::MAX as u64;
 
 // Where a run stands between two pieces of its input: the position of the last record answered, the group that it left, and the pulses of all.
-#[derive(Clone, Copy)]
+#[derive(Clone, Copy, PartialEq, Eq)]
 pub struct Progress {
     pub position: u32,
     pub group: Group,
     pub pulses: u64,
 }
 
-// Where the lines of a piece end, and where the run then stands.
-#[derive(Clone, Copy)]
+// Where the lines of a piece end, and where the run then stands. No option: that nothing is put for a piece that is not taken is one equation with what is put
+// for others (`piece_of`).
+#[derive(Clone, Copy, PartialEq, Eq)]
 pub struct PieceAnswer {
     pub end: usize,
     pub progress: Progress,
@@ -42,31 +43,22 @@ pub fn begin() -> Progress
     }
 }
 
-// Whether a run takes a piece of a size that is not its last.
+// Whether a run takes a piece of a size that is not its last. Position and pulses by themselves, as in `takes`.
 pub fn goes_on(position: u32, pulses: u64, size: usize, space: usize) -> bool
     ensures { result ≡ (eqb (size % 8) 0 && takes position pulses size space) }
 {
-    if size % 8 == 0 {
-        takes(position, pulses, size, space)
-    } else {
-        false
-    }
+    size % 8 == 0 && takes(position, pulses, size, space)
 }
 
-// Whether a run that stands at a position with so many pulses takes a piece of a size, and its text has room in so many bytes.
+// Whether a run that stands at a position with so many pulses takes a piece of a size, and its text has room in so many bytes. Position and pulses by
+// themselves: their definition and the clauses of `calls` have them so.
 pub fn takes(position: u32, pulses: u64, size: usize, space: usize) -> bool
     ensures { result ≡ takes position pulses size space }
 {
-    if MOST < size {
-        return false;
-    }
-    if MOST < 8 * position as usize + size {
-        return false;
-    }
-    if pulses > MOST_PULSES * position as u64 {
-        return false;
-    }
-    room_for(size) <= space
+    size <= MOST
+        && 8 * position as usize + size <= MOST
+        && pulses <= MOST_PULSES * u64::from(position)
+        && room_for(size) <= space
 }
 
 // The length that a buffer must have for the text of an input of a size, or of a piece of one.
@@ -80,5 +72,5 @@ pub fn room_for(size: usize) -> usize
 pub fn size_read(size: usize) -> usize
     ensures { result ≡ min 65536 size }
 {
-    if MOST < size { MOST } else { size }
+    MOST.min(size)
 }

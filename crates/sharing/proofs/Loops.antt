@@ -8,15 +8,14 @@ use mathlib.Core.List.{List, [], ◌∷◌}
 use native.Mathlib.Nat.{add-zero, zero-add}
 use native.Mathlib.Omega.{arith}
 use lib.Dec.{eqb, leb, ltb}
-use lib.ListN.{length, get_or, take, drop, length-take, length-drop, drop_of_length-le}
-use lib.Seq.{drop-drop, take_all, length-take-le}
+use lib.ListN.{length, get_or, set, take, drop, length-take, length-drop, drop_of_length-le}
+use lib.Seq.{drop-drop, take_all, length-take-le, get_or-set_same, get_or-set_other}
 use borrow.Author.Tests.{eqb-true, eq-eqb, ne_eqb, le-leb}
-use Rattle.order.specs.Cells.{tally, count, is_order, all_zero}
+use Rattle.order.specs.Cells.{count, is_order, all_zero}
 use Rattle.order.proofs.Cells.{lt_cases, eq_cases, count-drop, order_true}
 use Rattle.order.proofs.Numbers.{drop_up, drop_down}
-use Rattle.group.specs.Levels.{level, put, sum}
+use Rattle.group.specs.Levels.{level, sum}
 use Rattle.group.specs.Record.{all_at_most}
-use Rattle.group.proofs.Levels.{level_put, level_put_other}
 use Rattle.group.proofs.LevelRows.{all_at}
 use Rattle.push_up.specs.declared.PushUp.{PushUp}
 use Rattle.push_up.specs.PushUp.{floor_over, raise, pushes, pulses_in}
@@ -87,18 +86,20 @@ unfolding level
 level_next ls c = let e : suc c - 1 ≡ c = omega arith in rw e
 
 -- one cell more is marked
-pub flags_more : (on r : List ℕ) (x : ℕ) → 1 ≤ x → x - 1 < length on → Flags on r → Flags (put on x 1) (x ∷ r)
+pub flags_more : (on : List Bool) (r : List ℕ) (x : ℕ) → 1 ≤ x → x - 1 < length on → Flags on r → Flags (set on (x - 1) true) (x ∷ r)
 flags_more on r x low inside marks c =
     ⊎_elim
     (λ t.
-    let same : level (put on x 1) (suc c) ≡ 1 = ap (level (put on x 1)) (sym t.0) ∙ level_put on x 1 inside in
-    rw (eq-eqb (suc c) x (sym t.0), le-leb 1 (1 + count (suc c) r) (omega arith)) (sym (level_next (put on x 1) c) ∙ same))
+    let here : c ≡ x - 1 = omega (arith, t.0) in
+    let same : get_or (set on (x - 1) true) c false ≡ true
+    = ap (λ (i : ℕ). get_or (set on (x - 1) true) i false) here ∙ get_or-set_same on (x - 1) true false inside in
+    rw (eq-eqb (suc c) x (sym t.0), le-leb 1 (1 + count (suc c) r) (omega arith)) same)
     (λ t.
-    let kept = level_put_other on x (suc c) 1 (λ e. t.0 (omega (arith, e))) in
-    rw (ne_eqb (suc c) x (λ e. t.0 (sym e)), zero-add) (sym (level_next (put on x 1) c) ∙ kept ∙ level_next on c ∙ marks c))
+    let kept = get_or-set_other on (x - 1) c true false (λ e. t.0 (omega (arith, e, low))) in
+    rw (ne_eqb (suc c) x (λ e. t.0 (sym e)), zero-add) (kept ∙ marks c))
     (eq_cases x (suc c))
 
-pub flags_none : (on xs : List ℕ) (i : ℕ) → ((c : ℕ) → get_or on c 0 ≡ 0) → Flags on (part i i xs)
+pub flags_none : (on : List Bool) (xs : List ℕ) (i : ℕ) → ((c : ℕ) → get_or on c false ≡ false) → Flags on (part i i xs)
 flags_none on xs i zeros c = let e : i - i ≡ 0 = omega arith in rw e (zeros c)
 
 -- the list from one place before
@@ -119,15 +120,15 @@ pub record Above (n : ℕ) (r : List ℕ) (rs : List (List ℕ)) (old : List ℕ
   pub apart : (c : ℕ) → c ≤ n → Apart 12 (by_number c r ∷ rs)
   pub few : (c : ℕ) → is_listed (suc c) r ≡ true → cells_above (by_number c r ∷ rs) < 11
 
-module _ {n : ℕ} {r : List ℕ} {rs : List (List ℕ)} {old : List ℕ} (a : Above n r rs old) (on : List ℕ) (marks : Flags on r) where
+module _ {n : ℕ} {r : List ℕ} {rs : List (List ℕ)} {old : List ℕ} (a : Above n r rs old) (on : List Bool) (marks : Flags on r) where
   abbrev below : PushUp
   below = push_up_to 1 rs old
 
-  marked : (c : ℕ) → is_listed (suc c) r ≡ true → get_or on c 0 ≡ 1
-  marked c e = marks c ∙ ap tally e
+  marked : (c : ℕ) → is_listed (suc c) r ≡ true → get_or on c false ≡ true
+  marked c e = marks c ∙ e
 
-  unmarked : (c : ℕ) → is_listed (suc c) r ≡ false → get_or on c 0 ≡ 0
-  unmarked c e = marks c ∙ ap tally e
+  unmarked : (c : ℕ) → is_listed (suc c) r ≡ false → get_or on c false ≡ false
+  unmarked c e = marks c ∙ e
 
   short : (c : ℕ) → is_listed (suc c) r ≡ true → length (pushes 1 (by_number c r ∷ rs) old) < 11
   short c e = omega (arith, few_pushes 1 old (by_number c r ∷ rs), a.few c e)
@@ -150,7 +151,7 @@ module _ {n : ℕ} {r : List ℕ} {rs : List (List ℕ)} {old : List ℕ} (a : A
   pub rank_fits : PushesFit n on old below
   unfolding push_up_to
   rank_fits c l e =
-      let listed : is_listed (suc c) r ≡ true = ⊎_elim (λ t. t) (λ t. absurd (omega (arith, unmarked c t))) (listed_or_not (suc c) r) in
+      let listed : is_listed (suc c) r ≡ true = sym (marks c) ∙ e in
       rw (rank_up_lem c (omega arith))
       ((bounded 1 (omega arith) old a.low (by_number c r ∷ rs) (omega (arith, a.ranks)) (omega (arith, a.cells, number_length c r))).pulses, short c listed)
 
@@ -295,7 +296,7 @@ module _ {n : ℕ} {ss xs old : List ℕ} {p : PushUp} {k end : ℕ} (r : Raised
       let a = next_above in
       rw r.sofar (bounded 1 (omega arith) old b.low lower (omega (arith, a.ranks)) (omega (arith, a.cells))).floor
 
-  module _ (on : List ℕ) (marks : Flags on (part first end xs)) where
+  module _ (on : List Bool) (marks : Flags on (part first end xs)) where
     pub next_fits : PushesFit n on old p
     next_fits = rw r.sofar (rank_fits next_above on marks)
 

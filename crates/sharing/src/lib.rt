@@ -4,22 +4,21 @@
 // strictly above every cell of the next (proofs/Shown).
 #![tactic(auto)]
 
-ghost use Rattle.std.specs.Prelude.{◌≡◌, true, ◌≤◌, ◌<◌, max};
-ghost use Rattle.order.specs.Cells.{is_order};
+ghost use Rattle.std.specs.Prelude.{◌≡◌, true, ◌≤◌, ◌<◌};
 ghost use Rattle.order.specs.Order.{listed};
 ghost use Rattle.group.specs.Record.{all_at_most};
 ghost use Rattle.push_up.specs.WriteAnswer.{told_written};
 ghost use Rattle.push_up.specs.Steps.{push_up_to, cell_up};
-ghost use Rattle.sharing.specs.Shared.{is_sizes, shared_target, write_shared_of};
+ghost use Rattle.sharing.specs.Shared.{sizes_of, is_sizes, ranks_of, write_shared_of};
 ghost use Rattle.sharing.specs.Steps.{is_place, part, Flags, rank_up, PushesFit};
 
 use group::Group;
-use order::{Cell, Order, Outcome, Refusal};
+use order::{Cell, Checked, Order, Refusal};
 use push_up::{Push, PushUp, Written};
 
 // A target with several cells on one rank: how many ranks, how many cells each of them has, the highest rank first, and the cells by rank. Places past the
-// last rank hold 0.
-#[derive(Clone, Copy)]
+// last rank hold 0. As `order::Order`: fixed places, a count beside them.
+#[derive(Clone, Copy, PartialEq, Eq)]
 pub struct Ranked {
     pub count: usize,
     pub sizes: [u8; 12],
@@ -28,89 +27,53 @@ pub struct Ranked {
 
 // Minimal push-up to such a target. Checked are 1, 2, 18, 4, 8 and 19, in this order; a refusal leaves the group, its mark included. Accepted, the mark is
 // cleared.
-pub fn write_shared(g: Group, target: Ranked) -> Written
-    ensures { told_written result ≡ write_shared_of g target }
+#[tactic(auto, unfolding(order::specs::Refusals::number_of, order::specs::Refusals::answer, crate::specs::Shared::write_shared_of))]
+pub fn write_shared(g: Group, target: Ranked) -> Result<Written, Refusal>
+    ensures { told_written g result ≡ write_shared_of g target }
 {
-    let checked = group::check(g);
-    let Outcome::Done = checked else {
-        return push_up::unwritten(checked, g);
-    };
+    group::check(g)?;
     if !are_sizes(g.n, target) {
-        return push_up::unwritten(Outcome::Refused(Refusal::RankSizes), g);
+        return Err(Refusal::RankSizes);
     }
-    let cells = target.cells;
-    if !order::is_order(cells, g.n) {
-        return push_up::unwritten(Outcome::Refused(Refusal::NoOrder), g);
-    }
-    let old = g.levels;
-    let caps = g.caps;
-    let p = raise_ranks(target, old);
-    let levels = p.levels;
-    if !push_up::is_within(levels, caps) {
-        return push_up::unwritten(Outcome::Refused(Refusal::Worn), g);
-    }
-    let used_before = g.used;
-    let tallies = push_up::add_rises(used_before, old, levels, g.endurance);
-    if !tallies.lasting {
-        return push_up::unwritten(Outcome::Refused(Refusal::Spent), g);
-    }
-    let used = tallies.used;
-    let pushes = p.pushes;
-    Written {
-        outcome: Outcome::Done,
-        group: Group {
-            n: g.n,
-            levels,
-            caps,
-            used,
-            endurance: g.endurance,
-            written: false,
-        },
-        pulses: p.pulses,
-        count: p.count,
-        pushes,
-    }
+    let Some(cells) = Checked::of(target.cells, g.n) else {
+        return Err(Refusal::NoOrder);
+    };
+    let p = raise_ranks(cells, target, g.levels);
+    let used = push_up::used_after(g, p.levels)?;
+    Ok(push_up::programmed(g, p, used, false))
 }
 
-// Whether the target lists rank sizes of n cells. Twelve bytes add up to less than a usize holds.
+// Whether the target lists rank sizes of n cells. Twelve bytes add up to less than a usize holds. One loop tests and adds: a chain for each would go over the
+// row twice.
 fn are_sizes(n: usize, target: Ranked) -> bool
     ensures { result ≡ is_sizes n target }
 {
-    let count = target.count;
-    if 12 < count {
+    if 12 < target.count {
         return false;
     }
     let mut total: usize = 0;
-    let mut i = 0;
-    while i < 12 {
-        let size = target.sizes[i];
-        if !is_place(i < count, size) {
+    for (i, size) in target.sizes.iter().enumerate() {
+        if !is_place(i < target.count, *size) {
             return false;
         }
-        total += size as usize;
-        i += 1;
+        total += usize::from(*size);
     }
     total == n
 }
 
-// Whether a place for a size is as it should be: one that is used has at least 1, and one that is not used has 0. That a size is below 256 is what the caller's
-// proof needs of it.
+// Whether a place for a size is as it should be: one that is used has at least 1, and one that is not used has 0.
 fn is_place(used: bool, size: u8) -> bool
-    ensures { (result ≡ is_place used size) × (size < 256) }
+    ensures { result ≡ is_place used size }
 {
-    if used {
-        return 1 <= size;
-    }
-    size == 0
+    used == (1 <= size)
 }
 
-// The push-up of a whole shared target, from its lowest rank.
-fn raise_ranks(target: Ranked, old: [u16; 12]) -> PushUp
-    requires { (is_order target.cells.len (listed target.cells) ≡ true) × (target.cells.len ≤ 12) × (is_sizes target.cells.len target ≡ true) × (all_at_most 4095 old ≡ true) }
-    ensures { result ≡ push_up_to 1 (shared_target target.cells.len target) old }
+// The push-up of a whole shared target, whose cells are these, from its lowest rank.
+fn raise_ranks(cells: Checked, target: Ranked, old: [u16; 12]) -> PushUp
+    requires { (is_sizes cells.order.len target ≡ true) × (all_at_most 4095 old ≡ true) }
+    ensures { result ≡ push_up_to 1 (ranks_of cells.order.len (sizes_of target) (listed cells.order)) old }
 {
-    let cells = target.cells;
-    let n = cells.len;
+    let n = cells.order.len;
     let mut p = PushUp {
         levels: old,
         floor: 0,
@@ -119,33 +82,28 @@ fn raise_ranks(target: Ranked, old: [u16; 12]) -> PushUp
         pushes: push_up::zero_pushes(),
     };
     let mut end = n;
-    let mut k = target.count;
-    while 0 < k {
-        k -= 1;
-        let first = end - target.sizes[k] as usize;
+    for k in (0..target.count).rev() {
+        let first = end - usize::from(target.sizes[k]);
         p = raise_rank(p, old, on_rank(cells, first, end), n);
         end = first;
     }
     p
 }
 
-// Which cells are listed from one place of an order up to another: 1 at the index of each of these.
-fn on_rank(cells: Order, first: usize, end: usize) -> [u8; 12]
-    requires { (is_order cells.len (listed cells) ≡ true) × (cells.len ≤ 12) × (first ≤ end) × (end ≤ cells.len) }
-    ensures { Flags result (part first end (listed cells)) }
+// Which cells are listed from one place of an order up to another: true at the index of each of these.
+fn on_rank(cells: Checked, first: usize, end: usize) -> [bool; 12]
+    requires { (first ≤ end) × (end ≤ cells.order.len) }
+    ensures { Flags result (part first end (listed cells.order)) }
 {
-    let mut on = [0; 12];
-    let mut i = end;
-    while first < i {
-        i -= 1;
-        let at = cells.cells[i].number() - 1;
-        on[at] = 1;
+    let mut on = [false; 12];
+    for i in (first..end).rev() {
+        on[cells.order.cells[i].number() - 1] = true;
     }
     on
 }
 
-// The cells of one rank more, met in rising number.
-fn raise_rank(p: PushUp, old: [u16; 12], on: [u8; 12], n: usize) -> PushUp
+// The cells of one rank more, met in rising number. n is that of a checked group: an `order::Size` would test it once more.
+fn raise_rank(p: PushUp, old: [u16; 12], on: [bool; 12], n: usize) -> PushUp
     requires { (n ≤ 12) × (all_at_most 4095 old ≡ true) × (p.floor ≤ 5000) × PushesFit n on old p }
     ensures { result ≡ rank_up n on old p }
 {
@@ -153,54 +111,31 @@ fn raise_rank(p: PushUp, old: [u16; 12], on: [u8; 12], n: usize) -> PushUp
     let mut up = p;
     // one above a rank on which no cell stands yet
     up.floor = 1;
-    let mut c = 0;
-    while c < n {
-        let level = old[c];
-        let met = on[c];
-        c += 1;
-        if met == 1 {
-            up = raise_cell(up, Cell(c as u8), level, floor);
+    for c in 0..n {
+        if on[c] {
+            up = raise_cell(up, Cell(c as u8 + 1), old[c], floor);
         }
     }
     up
 }
 
 // One cell more on a rank: it takes the larger of its level and the floor, and the next rank stands above it.
+#[tactic(auto, unfolding(push_up::specs::Steps::cell_up, group::specs::Levels::put))]
 fn raise_cell(p: PushUp, cell: Cell, level: u16, floor: u16) -> PushUp
     requires { (1 ≤ cell.0) × (cell.0 ≤ 12) × (level ≤ 5000) × (floor ≤ 5000) × (p.pulses ≤ 100000) × (p.count < 11) }
     ensures { result ≡ cell_up 1 floor cell level p }
 {
-    let mut levels = p.levels;
-    let mut pushes = p.pushes;
+    let mut up = p;
+    up.floor = p.floor.max(level.max(floor) + 1);
     if level < floor {
-        let at = cell.number() - 1;
-        levels[at] = floor;
-        let count = p.count;
-        pushes[count] = Push {
+        up.levels[cell.number() - 1] = floor;
+        up.pulses += u32::from(floor - level);
+        up.pushes[p.count] = Push {
             cell,
             start: level,
             reach: floor,
         };
-        return PushUp {
-            levels,
-            floor: higher(p.floor, floor + 1),
-            pulses: p.pulses + (floor - level) as u32,
-            count: count + 1,
-            pushes,
-        };
+        up.count += 1;
     }
-    PushUp {
-        levels,
-        floor: higher(p.floor, level + 1),
-        pulses: p.pulses,
-        count: p.count,
-        pushes,
-    }
-}
-
-// The higher of two levels.
-fn higher(a: u16, b: u16) -> u16
-    ensures { result ≡ max a b }
-{
-    if a < b { b } else { a }
+    up
 }

@@ -3,28 +3,26 @@
 // expected text is not the engine's own: scripts/reference reckons it by the documents' definitions.
 #![tactic(auto)]
 
-use console::Poured;
+use console::PourError;
 use std::fs::File;
 use std::io;
 use std::rt::Files;
 
 fn main(rt: HostRuntime) -> io::Result<()> {
-    show(&rt, "refusals")?;
-    show(&rt, "left")?;
-    show(&rt, "empty")?;
-    show(&rt, "piece")?;
-    show(&rt, "cut")?;
-    show(&rt, "full")?;
-    show(&rt, "spent")
+    for path in ["refusals", "left", "empty", "piece", "cut", "full", "spent"] {
+        show(&rt, path)?;
+    }
+    Ok(())
 }
 
 fn show(rt: &(impl Files + Print), path: &str) -> io::Result<()> {
     rt.println(path)?;
     let mut file = File::open(rt, path)?;
-    let poured = console::pour(&mut file, &mut io::writer(rt));
-    match poured {
-        Poured::Whole => Ok(()),
-        Poured::NotWritten => Err(io::Error::other("not all of the text could be written")),
-        Poured::NotRead => Err(io::Error::other("the file could not be read to its end")),
-    }
+    // not by the error's `Display`, which speaks of an input: what this program says of a file stays
+    console::pour(&mut file, &mut io::writer(rt)).map_err(|error| {
+        io::Error::other(match error {
+            PourError::NotWritten => "not all of the text could be written",
+            PourError::NotRead => "the file could not be read to its end",
+        })
+    })
 }

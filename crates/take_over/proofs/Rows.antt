@@ -1,76 +1,61 @@
--- Values that are given, levels and caps up to 4,095 or used pulses up to the endurance, in the places of a row: the loop that puts them there, and what such a
+-- Values that are given, levels and caps up to 4,095 or used pulses up to the endurance, in the places of a row: what the row made of them tells, and what such a
 -- row and its first n values tell of each other.
 -- Assumes nothing.
-use Prim.Native.Nat.{ℕ, zero, suc, ◌+◌, ◌-◌, ◌≤◌, ◌<◌}
-use mathlib.Core.Path.{◌≡◌, refl, sym, ap, ◌∙◌}
-use mathlib.Core.Bool.{Bool, true, false, ◌&&◌, and-true, false≢true}
-use mathlib.Core.List.{List, [], ◌∷◌, ◌++◌}
-use native.Mathlib.Nat.{not-suc-le-zero, le_of_suc-le-suc}
-use native.Mathlib.Numerals.{add-one}
-use native.Mathlib.Omega.{arith}
-use lib.Dec.{leb, eqb}
-use lib.Bits.{bit_or}
-use lib.ListN.{length, get_or, set, take, drop, replicate, length-append, length-replicate, take-append-drop, drop_of_length-le}
-use lib.Seq.{take_all, length-take-le}
-use borrow.Author.Tests.{eqb-true, eq-eqb, ne_eqb}
+use Rattle.std.proofs.Common.{◌≡◌, ℕ, ◌-◌, ◌≤◌, Bool, true, false, cond, ◌&&◌, leb, eqb, List, [], ◌∷◌, ◌++◌, length, take, drop, replicate, Option, Some, None, refl, sym, ap, ap₂, ◌∙◌, arith, length-append, take-append-drop}
+use Rattle.std.proofs.lemmas.Bool.Decides.{nat_tests}
+use Rattle.std.proofs.lemmas.List.{length-replicate, drop-replicate}
+use borrow.Author.Tests.{eqb-true, eq-eqb}
+use Rattle.std.specs.List.{list_all}
+use Rattle.std.specs.Ordering.{partial_le, as_partial_cmp, nat_cmp}
+use lib.Seq.{length-take-le}
 use Rattle.order.proofs.Cells.{both}
-use Rattle.order.proofs.Bits.{zero_test}
 use Rattle.group.specs.Record.{all_at_most, is_row}
-use Rattle.group.proofs.LevelRows.{drop-replicate, all_gathered, all_take, row_true, padded_row, row_zeros}
+use Rattle.group.proofs.LevelRows.{all_take, row_true, padded_row, row_zeros}
+use Rattle.take_over.specs.Rows.{row_if_given}
 use Rattle.take_over.specs.TakeOver.{is_given, in_places}
 
 -- ---- values and their number
-
--- what a row made of values says: whether they are given ones, and their places where they are
-abbrev pub RowOf : ℕ → ℕ → List ℕ → Bool → List ℕ → Type 0
-RowOf m n xs b places = (b ≡ is_given m n xs) × (b ≡ true → places ≡ in_places xs)
-
-pub other_length : (m n : ℕ) (xs places : List ℕ) → (length xs ≡ n → ⊥) → RowOf m n xs false places
-unfolding is_given
-other_length m n xs places h = (rw (ne_eqb (length xs) n h), λ e. absurd (false≢true e))
 
 same_length : (m n : ℕ) (xs : List ℕ) → length xs ≡ n → is_given m n xs ≡ all_at_most m xs
 unfolding is_given
 same_length m n xs e = rw (eq-eqb (length xs) n e)
 
--- ---- values put into their places one by one
+-- ---- the row that values make
 
-copy_suc : (xs ds : List ℕ) (i : ℕ) → i < length xs → i < length ds → set (take i xs ++ drop i ds) i (get_or xs i 0) ≡ take (suc i) xs ++ drop (suc i) ds
-copy_suc [] ds i l m = absurd (not-suc-le-zero l)
-copy_suc (x ∷ xs) [] i l m = absurd (not-suc-le-zero m)
-copy_suc (x ∷ xs) (d ∷ ds) zero l m = refl
-copy_suc (x ∷ xs) (d ∷ ds) (suc i) l m = ap (λ (t : List ℕ). x ∷ t) (copy_suc xs ds i (le_of_suc-le-suc l) (le_of_suc-le-suc m))
+pub row_passed : {A : Type 0} (z : A) (p : A → Bool) (n : ℕ) (xs : List A) → length xs ≡ n → list_all p xs ≡ true
+    → Some (xs ++ drop n (replicate 12 z)) ≡ row_if_given z p n xs
+row_passed z p n xs e t = rw (t, eq-eqb (length xs) n e, drop-replicate n 12 z, sym e)
 
--- the first i values are in their places, with zeros after them, and `over` gathers by how much values are above m
-pub record Placed (m : ℕ) (xs places : List ℕ) (over i : ℕ) : Type 0 where
-  pub left : i ≤ length xs
-  pub copied : places ≡ take i xs ++ drop i (replicate 12 0)
-  pub gathered : (leb over 0 && all_at_most m (drop i xs)) ≡ all_at_most m xs
+at_most : (x m : ℕ) → partial_le (as_partial_cmp nat_cmp) x m ≡ leb x m
+at_most x m = grind (arith, nat_tests)
 
-pub placed_none : (m : ℕ) (xs : List ℕ) → Placed m xs (replicate 12 0) 0 0
-placed_none m xs = record { left = omega arith; copied = refl; gathered = refl }
+passed : (m : ℕ) (xs : List ℕ) → list_all (λ x. partial_le (as_partial_cmp nat_cmp) x m) xs ≡ all_at_most m xs
+unfolding all_at_most
+passed m [] = refl
+passed m (x ∷ xs) = ap₂ ◌&&◌ (at_most x m) (passed m xs)
 
-module _ {m : ℕ} {xs places : List ℕ} {over i : ℕ} (p : Placed m xs places over i) (short : length xs ≤ 12) where
-  pub placed_more : i < length xs → Placed m xs (set places i (get_or xs i 0)) (bit_or over (get_or xs i 0 - m)) (i + 1)
-  placed_more l =
-      record {
-        left = omega arith;
-        copied = rw (p.copied, add-one i) (copy_suc xs (replicate 12 0) i l (omega (arith, short)));
-        gathered = all_gathered i over m xs l ∙ p.gathered;
-      }
+-- r is the row of values of which none is above m
+abbrev pub RowOf : ℕ → ℕ → List ℕ → Option (List ℕ) → Type 0
+RowOf m n xs r = r ≡ row_if_given 0 (λ x. partial_le (as_partial_cmp nat_cmp) x m) n xs
 
-  module _ (end : length xs ≤ i) where
-    placed_all : places ≡ in_places xs
-    placed_all =
-        let e : i ≡ length xs = omega (arith, p.left) in
-        p.copied ∙ rw (e, take_all (length xs) xs (omega arith), drop-replicate (length xs) 12 0)
+module _ (m n : ℕ) (xs : List ℕ) {r : Option (List ℕ)} (e : RowOf m n xs r) where
+  row : r ≡ cond (is_given m n xs) (Some (in_places xs)) None
+  unfolding is_given
+  row = e ∙ ap (λ (b : Bool). cond (eqb (length xs) n && b) (Some (in_places xs)) None) (passed m xs)
 
-    placed_low : eqb over 0 ≡ all_at_most m xs
-    unfolding all_at_most
-    placed_low = zero_test over ∙ sym (and-true (leb over 0)) ∙ rw (drop_of_length-le xs {i = i} end) at p.gathered
+  pub row_found : {places : List ℕ} → r ≡ Some places → (is_given m n xs ≡ true) × (places ≡ in_places xs)
+  row_found {places} f = go (is_given m n xs) (sym f ∙ row)
+    where
+      go : (b : Bool) → Some places ≡ cond b (Some (in_places xs)) None → (b ≡ true) × (places ≡ in_places xs)
+      go true h = (refl, cc)
+      go false h = absurd (cc)
 
-    pub placed_row : (n : ℕ) → length xs ≡ n → RowOf m n xs (eqb over 0) places
-    placed_row n e = (placed_low ∙ sym (same_length m n xs e), λ t. placed_all)
+  pub row_missing : r ≡ None → is_given m n xs ≡ false
+  row_missing f = go (is_given m n xs) (sym f ∙ row)
+    where
+      go : (b : Bool) → None ≡ cond b (Some (in_places xs)) None → b ≡ false
+      go true h = absurd (cc)
+      go false h = refl
 
 -- ---- rows
 

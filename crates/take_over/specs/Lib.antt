@@ -1,1 +1,2 @@
 pub mod TakeOver
+pub mod Rows

@@ -2,8 +2,8 @@
 -- Assumes nothing.
 use Prim.Native.Nat.{ℕ, ◌/◌}
 use mathlib.Core.Path.{◌≡◌, sym, ap, ◌∙◌}
-use mathlib.Core.Bool.{Bool, true, false, cond}
-use mathlib.Core.List.{List, [], ◌∷◌, ◌++◌}
+use mathlib.Core.Bool.{Bool}
+use mathlib.Core.List.{List, []}
 use native.Mathlib.Omega.{arith}
 use lib.Dec.{leb}
 use lib.ListN.{length}
@@ -11,11 +11,11 @@ use borrow.Author.Tests.{leb-true}
 use Rattle.order.specs.declared.Refusal.{Refusal}
 use Rattle.order.specs.declared.Refusal.TheVariants.{RoomShort}
 use Rattle.order.specs.Refusals.{Told, refusal_number, number_of, if_done, answer}
-use Rattle.order.proofs.Refusals.{told_done, told_refused, refused_zeros, refused_first, later_decide, check_fails, check_holds, all_hold, check_held, all_held}
+use Rattle.order.proofs.Refusals.{told_done, told_refused, refused_zeros, refused_first, later_decide, check_held, all_held}
 use Rattle.cell_run.specs.Run.{limit_checks}
 use Rattle.cell_run.proofs.Checks.{limits_held}
 use Rattle.window.specs.Ring.{window_numbers}
-use Rattle.window.specs.Calls.{scratch_levels, has_room, window_checks, put_first, windows_of, numbers_after, scratch_after}
+use Rattle.window.specs.Calls.{scratch_levels, window_checks, put_first, windows_of, numbers_after, scratch_after}
 use Rattle.window.specs.Steps.{call_checks, Numberable}
 use Rattle.window.proofs.Numbering.{numbers_length}
 
@@ -55,52 +55,37 @@ module _ (of_run : List (Bool × Refusal)) (ls : List ℕ) (width step : ℕ) (n
     unfolding windows_of numbers_after scratch_after answer
     run_passing t = (rw same at t.0, (rw same at t.1.0, rw same at t.1.1))
 
-pub numberable : (ls : List ℕ) (width step : ℕ) (numbers : List ℕ) → number_of (call_checks (length ls) width step (length numbers)) ≡ 0 → Numberable ls width step numbers
-numberable ls width step numbers d =
+pub numberable : (ls : List ℕ) (width step : ℕ) (numbers scratch : List ℕ) → number_of (call_checks (length ls) width step (length numbers) (length scratch)) ≡ 0
+    → Numberable ls width step numbers scratch
+numberable ls width step numbers scratch d =
     let w = all_held _ (limit_checks (length ls) width step) d in
     let limits = limits_held (length ls) width step w.0 in
-    let c = check_held (leb (length ls / step) (length numbers)) RoomShort [] w.1 in
+    let c = check_held (leb (length ls / step) (length numbers)) RoomShort _ w.1 in
+    let r = check_held (leb (length ls) (length scratch)) RoomShort [] c.1 in
     record {
       first = omega (arith, limits.wide, limits.inside);
       wide = limits.narrow;
       inside = limits.inside;
       forward = limits.forward;
       count = leb-true (length ls / step) (length numbers) c.0;
+      room = leb-true (length ls) (length scratch) r.0;
     }
 
 module _ (ls : List ℕ) (width step : ℕ) (numbers scratch : List ℕ) where
-  -- whether the scratch is long enough
-  abbrev room : Bool
-  room = has_room (scratch_levels ls width step) scratch
-
-  -- the checks by their numbers, and then the scratch, are those of the call
-  by_numbers : call_checks (length ls) width step (length numbers) ++ (room, RoomShort) ∷ [] ≡ window_checks [] ls width step numbers scratch
+  -- the checks by their numbers are those of the call
+  by_numbers : call_checks (length ls) width step (length numbers) (length scratch) ≡ window_checks [] ls width step numbers scratch
+  unfolding scratch_levels
   by_numbers = rw (numbers_length ls width step)
 
-  pub call_refused : (f : Refusal) → number_of (call_checks (length ls) width step (length numbers)) ≡ refusal_number f
+  pub call_refused : (f : Refusal) → number_of (call_checks (length ls) width step (length numbers) (length scratch)) ≡ refusal_number f
       → Answered [] ls width step numbers scratch (record { number = refusal_number f; value = 0 }) numbers scratch
-  call_refused f e =
-      refused_by [] ls width step numbers scratch f
-      (ap number_of (sym by_numbers) ∙ refused_first _ (call_checks (length ls) width step (length numbers)) f e)
+  call_refused f e = refused_by [] ls width step numbers scratch f (ap number_of (sym by_numbers) ∙ e)
 
-  module _ (d : number_of (call_checks (length ls) width step (length numbers)) ≡ 0) where
-    -- the scratch decides
-    last : number_of (window_checks [] ls width step numbers scratch) ≡ number_of ((room, RoomShort) ∷ [])
-    last = ap number_of (sym by_numbers) ∙ later_decide _ (call_checks (length ls) width step (length numbers)) d
-
-    module _ {r : Bool} {ns ss : List ℕ} (t : (r ≡ room)
-        × ((ns ≡ cond r (put_first (window_numbers ls width step) numbers) numbers) × (ss ≡ cond r (put_first (scratch_levels ls width step) scratch) scratch))) where
-      pub unfilled : r ≡ false → Answered [] ls width step numbers scratch (record { number = refusal_number RoomShort; value = 0 }) ns ss
-      unfilled e =
-          let kept : ns ≡ numbers = t.1.0 ∙ ap (λ (b : Bool). cond b (put_first (window_numbers ls width step) numbers) numbers) e in
-          let left : ss ≡ scratch = t.1.1 ∙ ap (λ (b : Bool). cond b (put_first (scratch_levels ls width step) scratch) scratch) e in
-          rw (kept, left) (refused_by [] ls width step numbers scratch RoomShort (last ∙ check_fails _ _ (sym t.0 ∙ e)))
-
-      -- the windows are numbered
-      pub filled : r ≡ true → Answered [] ls width step numbers scratch (record { number = 0; value = length ls / step }) ns ss
-      unfolding windows_of numbers_after scratch_after
-      filled e =
-          let pass : number_of (window_checks [] ls width step numbers scratch) ≡ 0 = last ∙ check_holds _ _ (sym t.0 ∙ e) ∙ all_hold in
-          let numbered : ns ≡ put_first (window_numbers ls width step) numbers = t.1.0 ∙ ap (λ (b : Bool). cond b (put_first (window_numbers ls width step) numbers) numbers) e in
-          let put : ss ≡ put_first (scratch_levels ls width step) scratch = t.1.1 ∙ ap (λ (b : Bool). cond b (put_first (scratch_levels ls width step) scratch) scratch) e in
-          (rw (← numbers_length ls width step) (told_done _ _ _ pass), (rw (numbered, pass), rw (put, pass)))
+  -- the windows are numbered
+  pub filled : {ns ss : List ℕ} → number_of (call_checks (length ls) width step (length numbers) (length scratch)) ≡ 0
+      → ns ≡ put_first (window_numbers ls width step) numbers → ss ≡ put_first ls scratch
+      → Answered [] ls width step numbers scratch (record { number = 0; value = length ls / step }) ns ss
+  unfolding windows_of numbers_after scratch_after scratch_levels
+  filled d numbered put =
+      let pass : number_of (window_checks [] ls width step numbers scratch) ≡ 0 = ap number_of (sym by_numbers) ∙ d in
+      (rw (← numbers_length ls width step) (told_done _ _ _ pass), (rw (numbered, pass), rw (put, pass)))

@@ -10,7 +10,8 @@ use native.Mathlib.Nat.{add-zero}
 use native.Mathlib.Numerals.{add-one}
 use native.Mathlib.Omega.{arith}
 use lib.Dec.{ltb}
-use lib.ListN.{length, get_or}
+use lib.ListN.{length, get_or, take}
+use lib.Seq.{get_or-take, length-take-le}
 use borrow.Author.Tests.{lt-ltb, le-ltb}
 use Rattle.order.specs.Cells.{tally, count_if, count, below}
 use Rattle.order.proofs.Cells.{tally-ne, tally-le, eq_cases, lt_cases, order_count}
@@ -146,18 +147,21 @@ module _ {ls : List ℕ} {i j here next : ℕ} (c : Counting ls i j here next) w
   pub counted_fits : (a b : ℕ) {u : ℕ} → u ≡ stands_after a b → (here + u ≤ i + 1) × (next + u ≤ i + 2)
   counted_fits a b e = let low = counted_low in (omega (arith, low, c.reached, e, after_one a b), omega (arith, low, c.reached, e, after_one a b))
 
-  pub counting_more : {u v : ℕ} → j < i → u ≡ stands_after (get_or ls j 0) (get_or ls i 0) → v ≡ stands_after (get_or ls j 0) (get_or ls (i + 1) 0)
-      → Counting ls i (j + 1) (here + u) (next + v)
+  -- the cells before are the first i levels
+  pub counting_more : {u v : ℕ} → i ≤ length ls → j < length (take i ls) → u ≡ stands_after (get_or (take i ls) j 0) (get_or ls i 0)
+      → v ≡ stands_after (get_or (take i ls) j 0) (get_or ls (i + 1) 0) → Counting ls i (j + 1) (here + u) (next + v)
   unfolding count_to
-  counting_more l e f =
+  counting_more m h e f =
+      let l : j < i = omega (arith, length-take-le i ls m) in
+      let same = get_or-take i ls j 0 l in
       record {
         reached = omega arith;
-        first = rw (add-one j) (omega (arith, c.first, e, under_levels ls i j l));
-        second = rw (add-one j) (omega (arith, c.second, f, under_levels ls (i + 1) j (omega arith)));
+        first = rw (add-one j) (omega (arith, c.first, rw same at e, under_levels ls i j l));
+        second = rw (add-one j) (omega (arith, c.second, rw same at f, under_levels ls (i + 1) j (omega arith)));
       }
 
-  pub counting_done : i ≤ j → i + 1 < length ls → (here ≡ coordinate_of (window_order ls) i) × (next ≡ coordinate_of (window_order ls) (i + 1))
+  pub counting_done : length (take i ls) ≤ j → i + 1 < length ls → (here ≡ coordinate_of (window_order ls) i) × (next ≡ coordinate_of (window_order ls) (i + 1))
   counting_done h l =
-      let e : j ≡ i = omega (arith, c.reached) in
+      let e : j ≡ i = omega (arith, c.reached, length-take-le i ls (omega arith)) in
       let last : next ≡ count_to (under ls (suc (i + 1))) (i + 1) = omega (arith, c.second, ap (count_to (under ls (suc (i + 1)))) e, count-one (under ls (suc (i + 1))) i) in
       (c.first ∙ ap (count_to (under ls (suc i))) e ∙ sym (coordinate_under (length ls) ls i (omega arith)), last ∙ sym (coordinate_under (length ls) ls (i + 1) l))

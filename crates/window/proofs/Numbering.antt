@@ -3,15 +3,14 @@
 use Prim.Native.Nat.{ℕ, ◌+◌, ◌-◌, ◌*◌, ◌/◌, ◌≤◌, ◌<◌}
 use mathlib.Core.Path.{◌≡◌, refl, sym, ap, ◌∙◌}
 use mathlib.Core.List.{List, ◌++◌}
-use native.Mathlib.Nat.{suc-mul, zero-mul, mul-le-mul_right, div-mul-le_self, mod-eq_of_lt}
-use native.Mathlib.Numerals.{add-one}
+use native.Mathlib.Nat.{suc-mul, mul-le-mul_right, div-mul-le_self, mod-eq_of_lt}
 use native.Mathlib.Omega.{arith}
 use lib.ListN.{length, get_or, set, take, drop, length-append, length-drop}
 use lib.Seq.{take_at, drop_at, drop-drop, ext_get_or, get_or-take, get_or-drop, length-take-le, take_all}
 use Rattle.order.specs.Cells.{tabulate}
 use Rattle.order.proofs.Tabulate.{length_tabulate, get_d_tabulate}
 use Rattle.window.specs.Ring.{window_number, window_at, number_at, window_numbers}
-use Rattle.window.specs.Calls.{scratch_levels, put_first}
+use Rattle.window.specs.Calls.{put_first}
 use Rattle.window.specs.Steps.{Numberable, KeptPast}
 use Rattle.window.proofs.Placing.{grown, grown_none, grown_length, grown_more, grown_whole, level_on}
 
@@ -61,62 +60,49 @@ module _ (ring : List ℕ) (width p : ℕ) (old : List ℕ) {new : List ℕ} (e 
 
 -- ---- the loop
 
-pub record Numbering (ring : List ℕ) (width step : ℕ) (numbers₀ scratch₀ numbers scratch : List ℕ) (start k : ℕ) : Type 0 where
-  pub needs : Numberable ring width step numbers₀
-  pub room : length ring ≤ length scratch₀
-  pub turn : k ≤ length ring / step
+pub record Numbering (ring : List ℕ) (width step : ℕ) (numbers₀ scratch₀ numbers scratch : List ℕ) (k : ℕ) : Type 0 where
+  pub needs : Numberable ring width step numbers₀ scratch₀
   pub list : numbers ≡ grown (number_at ring width step) k numbers₀
-  pub at : start ≡ k * step
   pub kept : drop width scratch ≡ drop width scratch₀
   pub long : length scratch ≡ length scratch₀
 
-pub begin : {ring : List ℕ} {width step : ℕ} {numbers scratch : List ℕ} → Numberable ring width step numbers → length ring ≤ length scratch
-    → Numbering ring width step numbers scratch numbers scratch 0 0
-begin {ring} {width} {step} {numbers} {scratch} n l =
-    record { needs = n; room = l; turn = omega arith; list = grown_none (number_at ring width step) numbers; at = sym (zero-mul step); kept = refl; long = refl }
+pub begin : {ring : List ℕ} {width step : ℕ} {numbers scratch : List ℕ} → Numberable ring width step numbers scratch
+    → Numbering ring width step numbers scratch numbers scratch 0
+begin {ring} {width} {step} {numbers} {scratch} n =
+    record { needs = n; list = grown_none (number_at ring width step) numbers; kept = refl; long = refl }
 
-module _ {ring : List ℕ} {width step : ℕ} {numbers₀ scratch₀ numbers scratch : List ℕ} {start k : ℕ} (s : Numbering ring width step numbers₀ scratch₀ numbers scratch start k) where
-  pub numbers_long : length numbers ≡ length numbers₀
-  numbers_long = ap length s.list ∙ grown_length (number_at ring width step) k numbers₀ (omega (arith, s.turn, s.needs.count))
+module _ {ring : List ℕ} {width step : ℕ} {numbers₀ scratch₀ numbers scratch : List ℕ} {k : ℕ} (s : Numbering ring width step numbers₀ scratch₀ numbers scratch k) where
+  pub numbers_long : k ≤ length ring / step → length numbers ≡ length numbers₀
+  numbers_long l = ap length s.list ∙ grown_length (number_at ring width step) k numbers₀ (omega (arith, s.needs.count))
 
   pub has_room : width ≤ length scratch
-  has_room = omega (arith, s.long, s.needs.inside, s.room)
+  has_room = omega (arith, s.long, s.needs.inside, s.needs.room)
 
   module _ (l : k < length ring / step) where
-    -- a window starts on the ring, and the next start is not past its end
-    pub start_inside : start + step ≤ length ring
-    start_inside = omega (arith, s.at, suc-mul k step, mul-le-mul_right step l, div-mul-le_self (length ring) step)
+    -- a window starts on the ring
+    pub start_inside : k * step < length ring
+    start_inside = omega (arith, s.needs.forward, suc-mul k step, mul-le-mul_right step l, div-mul-le_self (length ring) step)
 
-    pub next : {new : List ℕ} {number : ℕ} → number ≡ window_number (window_at ring width start) → KeptPast width scratch new
-        → Numbering ring width step numbers₀ scratch₀ (set numbers k number) new (start + step) (k + 1)
+    pub next : {new : List ℕ} {number : ℕ} → number ≡ window_number (window_at ring width (k * step)) → KeptPast width scratch new
+        → Numbering ring width step numbers₀ scratch₀ (set numbers k number) new (k + 1)
     next {new} {number} f e =
-        let here : number ≡ number_at ring width step k = f ∙ ap (λ (p : ℕ). window_number (window_at ring width p)) s.at in
         record {
           needs = s.needs;
-          room = s.room;
-          turn = omega arith;
-          list = rw (s.list, here) (grown_more (number_at ring width step) k numbers₀ (omega (arith, s.needs.count)));
-          at = rw (add-one k) (omega (arith, s.at, suc-mul k step));
+          list = rw (s.list, f) (grown_more (number_at ring width step) k numbers₀ (omega (arith, s.needs.count)));
           kept = e.later ∙ s.kept;
           long = e.long ∙ s.long;
         }
 
-  pub numbers_done : length ring / step ≤ k → numbers ≡ put_first (window_numbers ring width step) numbers₀
+  pub numbers_done : k ≡ length ring / step → numbers ≡ put_first (window_numbers ring width step) numbers₀
   unfolding window_numbers
-  numbers_done l =
-      let e : k ≡ length ring / step = omega (arith, s.turn) in
+  numbers_done e =
       s.list ∙ grown_whole (number_at ring width step) k numbers₀ ∙ ap (λ (n : ℕ). put_first (tabulate n (number_at ring width step)) numbers₀) e
 
   -- the whole ring put over the last window
-  pub scratch_done : {new : List ℕ} → new ≡ put_first ring scratch → new ≡ put_first (scratch_levels ring width step) scratch₀
-  unfolding scratch_levels
+  pub scratch_done : {new : List ℕ} → new ≡ put_first ring scratch → new ≡ put_first ring scratch₀
   scratch_done {new} e =
       let past : width + (length ring - width) ≡ length ring = omega (arith, s.needs.inside) in
       let later : drop (length ring) scratch ≡ drop (length ring) scratch₀ =
       ap (λ (n : ℕ). drop n scratch) (sym past) ∙ sym (drop-drop (length ring - width) width scratch) ∙ ap (drop (length ring - width)) s.kept
       ∙ drop-drop (length ring - width) width scratch₀ ∙ ap (λ (n : ℕ). drop n scratch₀) past in
       e ∙ ap (λ (t : List ℕ). ring ++ t) later
-
-  pub scratch_long : {new : List ℕ} → new ≡ put_first ring scratch → length new ≡ length scratch₀
-  scratch_long {new} e =
-      rw e (omega (arith, length-append ring (drop (length ring) scratch), length-drop (length ring) scratch, s.long, s.room))

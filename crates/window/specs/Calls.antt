@@ -3,7 +3,7 @@
 --   ring r               the levels of the run's cells, which stand in a ring
 --   scratch_levels ls w s what stands first in the scratch after the call: the run's levels, whatever the width and the step
 --   has_room new old      a lent list is long enough for what goes into it
---   told_windows a        what the answer says: its number, and how many numbers were filled in
+--   told_windows a        what the answer says: its number, and how many numbers were filled in, or 0
 --   put_first new old     a lent list with new elements first, and the later places untouched
 --
 -- Of a call: of_run are the checks of the run as it is handed in (`run_checks`, `level_checks` of cell_run), ls the levels of its ring,
@@ -12,14 +12,12 @@
 --   window_checks         its checks: those of the run, then 13 for width and step, then 15
 --   windows_of            its answer: 0 and how many numbers were filled in, else the refusal and 0
 --   numbers_after, scratch_after    the two lent lists after it: a refusal leaves them as they were
-use Rattle.std.specs.Prelude.{ℕ, Bool, List, [], ◌∷◌, ◌++◌, leb, length, take, drop}
+use Rattle.std.specs.Prelude.{ℕ, Bool, List, [], ◌∷◌, ◌++◌, leb, length, take, drop, Result}
 use Rattle.order.specs.declared.Refusal.{Refusal}
 use Rattle.order.specs.declared.Refusal.TheVariants.{RoomShort}
-use Rattle.order.specs.Refusals.{refusal_number, number_of, if_done, Told, answer}
+use Rattle.order.specs.Refusals.{number_of, if_done, Told, told, answer}
 use Rattle.cell_run.specs.declared.Run.{Run}
 use Rattle.cell_run.specs.Run.{limit_checks}
-use Rattle.window.specs.declared.WindowsAnswer.{WindowsAnswer}
-use Rattle.window.specs.declared.WindowsAnswer.TheVariants.{Refused, Filled}
 use Rattle.window.specs.Ring.{window_numbers}
 
 -- ---- a run, its windows and the lent lists
@@ -33,9 +31,8 @@ scratch_levels ls width step = ls
 abbrev pub has_room : List ℕ → List ℕ → Bool
 has_room new old = leb (length new) (length old)
 
-abbrev pub told_windows : WindowsAnswer → Told ℕ
-told_windows (Refused refusal) = record { number = refusal_number refusal; value = 0 }
-told_windows (Filled count) = record { number = 0; value = count }
+abbrev pub told_windows : Result ℕ Refusal → Told ℕ
+told_windows a = told 0 a
 
 abbrev pub put_first : List ℕ → List ℕ → List ℕ
 put_first new old = new ++ drop (length new) old

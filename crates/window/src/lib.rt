@@ -4,23 +4,16 @@
 // a step has its numbers turned by one.
 #![tactic(auto)]
 
-ghost use Rattle.std.specs.Prelude.{◌≡◌, cond, ◌+◌, ◌%◌, ◌≤◌, ◌<◌, length};
+ghost use Rattle.std.specs.Prelude.{◌≡◌, ◌+◌, ◌%◌, ◌≤◌, ◌<◌, length};
 ghost use Rattle.order.specs.Refusals.{outcome_number, number_of};
 ghost use Rattle.coordinates.specs.Coordinates.{coordinate_of};
 ghost use Rattle.cell_run.specs.Run.{run_checks, level_checks};
 ghost use Rattle.window.specs.Ring.{window_order, window_number, window_at, window_numbers};
-ghost use Rattle.window.specs.Calls.{ring, scratch_levels, has_room, put_first, told_windows, windows_of, numbers_after, scratch_after};
+ghost use Rattle.window.specs.Calls.{ring, put_first, told_windows, windows_of, numbers_after, scratch_after};
 ghost use Rattle.window.specs.Steps.{stands_after, call_checks, Numberable, KeptPast};
 
 use cell_run::Run;
-use order::{Outcome, Refusal};
-
-// How many windows were numbered, or why none was.
-#[derive(Clone, Copy)]
-pub enum WindowsAnswer {
-    Refused(Refusal),
-    Filled(usize),
-}
+use order::Refusal;
 
 // Coordinates i and i + 1 of a window.
 #[derive(Clone, Copy)]
@@ -30,25 +23,21 @@ struct TwoCoordinates {
 }
 
 // The numbers of the windows that start with cells 1, 1 + step and so on, put first into a list; a scratch of at least as many levels as the
-// run ends with the run's levels first.
+// run ends with the run's levels first. The answer is how many windows were numbered.
+// Width, step and both lists go by themselves, and not in a record: so the C interface hands them over.
 pub fn windows(
     run: Run,
     width: usize,
     step: usize,
     numbers: &mut [u32],
     scratch: &mut [u16],
-) -> WindowsAnswer
+) -> Result<usize, Refusal>
     ensures result_value { told_windows result ≡ windows_of (run_checks run) (ring run) width step numbers.old scratch.old }
     ensures numbers_after { numbers.new ≡ numbers_after (run_checks run) (ring run) width step numbers.old scratch.old }
     ensures scratch_after { scratch.new ≡ scratch_after (run_checks run) (ring run) width step numbers.old scratch.old }
 {
-    let checked = cell_run::check(run);
-    if let Outcome::Refused(refusal) = checked {
-        return WindowsAnswer::Refused(refusal);
-    }
-    let len = run.len;
-    let levels = run.levels;
-    windows_of_levels(&levels[..len], width, step, numbers, scratch)
+    cell_run::check(run)?;
+    windows_of_levels(&run.levels[..run.len], width, step, numbers, scratch)
 }
 
 // The same for the levels of a run that are handed in without a record.
@@ -58,65 +47,46 @@ pub fn windows_of_levels(
     step: usize,
     numbers: &mut [u32],
     scratch: &mut [u16],
-) -> WindowsAnswer
+) -> Result<usize, Refusal>
     ensures result_value { told_windows result ≡ windows_of (level_checks levels.now) levels.now width step numbers.old scratch.old }
     ensures numbers_after { numbers.new ≡ numbers_after (level_checks levels.now) levels.now width step numbers.old scratch.old }
     ensures scratch_after { scratch.new ≡ scratch_after (level_checks levels.now) levels.now width step numbers.old scratch.old }
 {
-    let of_run = cell_run::check_levels(levels);
-    if let Outcome::Refused(refusal) = of_run {
-        return WindowsAnswer::Refused(refusal);
-    }
-    let checked = check_call(levels.len(), width, step, numbers.len());
-    if let Outcome::Refused(refusal) = checked {
-        return WindowsAnswer::Refused(refusal);
-    }
-    if !number_windows(levels, width, step, numbers, scratch) {
-        return WindowsAnswer::Refused(Refusal::RoomShort);
-    }
-    WindowsAnswer::Filled(levels.len() / step)
+    cell_run::check_levels(levels)?;
+    check_call(levels.len(), width, step, numbers.len(), scratch.len())?;
+    number_windows(levels, width, step, numbers, scratch);
+    Ok(levels.len() / step)
 }
 
-// The outcome for a width and a step on a ring of n cells, and for a list of numbers of so many places.
-fn check_call(n: usize, width: usize, step: usize, numbers: usize) -> Outcome
-    ensures { outcome_number result ≡ number_of (call_checks n width step numbers) }
-{
-    let limits = cell_run::check_windows(n, width, step);
-    let Outcome::Done = limits else {
-        return limits;
-    };
-    if numbers < n / step {
-        return Outcome::Refused(Refusal::RoomShort);
-    }
-    Outcome::Done
-}
-
-// Whether the scratch is long enough; where it is, each window is numbered. At the end the levels of the whole ring stand first in the scratch.
-fn number_windows(
-    ring: &[u16],
+// The checks of a width and a step on a ring of n cells, and of lists of so many numbers and levels.
+#[tactic(auto, unfolding(order::specs::Refusals::number_of))]
+fn check_call(
+    n: usize,
     width: usize,
     step: usize,
-    numbers: &mut [u32],
-    scratch: &mut [u16],
-) -> bool
-    requires { Numberable ring.now width step numbers.old }
-    ensures value { result ≡ has_room (scratch_levels ring.now width step) scratch.old }
-    ensures numbers_after { numbers.new ≡ cond result (put_first (window_numbers ring.now width step) numbers.old) numbers.old }
-    ensures scratch_after { scratch.new ≡ cond result (put_first (scratch_levels ring.now width step) scratch.old) scratch.old }
+    numbers: usize,
+    scratch: usize,
+) -> Result<(), Refusal>
+    ensures { outcome_number result ≡ number_of (call_checks n width step numbers scratch) }
 {
-    if scratch.len() < ring.len() {
-        return false;
+    cell_run::check_windows(n, width, step)?;
+    if numbers < n / step || scratch < n {
+        return Err(Refusal::RoomShort);
     }
+    Ok(())
+}
+
+// Numbers each window. At the end the levels of the whole ring stand first in the scratch.
+fn number_windows(ring: &[u16], width: usize, step: usize, numbers: &mut [u32], scratch: &mut [u16])
+    requires { Numberable ring.now width step numbers.old scratch.old }
+    ensures numbers_after { numbers.new ≡ put_first (window_numbers ring.now width step) numbers.old }
+    ensures scratch_after { scratch.new ≡ put_first ring.now scratch.old }
+{
     let count = ring.len() / step;
-    let mut start = 0;
-    let mut k = 0;
-    while k < count {
-        numbers[k] = number_at(ring, start, width, scratch);
-        start += step;
-        k += 1;
+    for k in 0..count {
+        numbers[k] = number_at(ring, k * step, width, scratch);
     }
-    put_levels(ring, scratch);
-    true
+    scratch[..ring.len()].copy_from_slice(ring);
 }
 
 // The number of the window that starts at a place. A window that goes round the end of the ring is put together at the front of the scratch.
@@ -133,33 +103,20 @@ fn number_at(ring: &[u16], start: usize, width: usize, scratch: &mut [u16]) -> u
     number_of(&scratch[..width])
 }
 
-// Puts the levels of the whole ring first into a list.
-fn put_levels(ring: &[u16], out: &mut [u16])
-    requires { length ring.now ≤ length out.old }
-    ensures { out.new ≡ put_first ring.now out.old }
-{
-    let mut j = 0;
-    while j < ring.len() {
-        out[j] = ring[j];
-        j += 1;
-    }
-}
-
-// Puts the levels of a window first into a list, in ring order.
+// Puts the levels of a window first into a list, in ring order. `at` is counted: this holds for a window of any width, and two `copy_from_slice` (to the
+// ring's end, and from its start) only for one no wider than the ring.
 fn put_window(ring: &[u16], start: usize, width: usize, out: &mut [u16])
     requires { (start < length ring.now) × (width ≤ length out.old) }
     ensures { out.new ≡ put_first (window_at ring.now width start) out.old }
 {
     let mut at = start;
-    let mut j = 0;
-    while j < width {
+    for j in 0..width {
         out[j] = ring[at];
         at = next_on(ring.len(), at);
-        j += 1;
     }
 }
 
-// The place after a place on a ring of n.
+// The place after a place on a ring of n, with no division.
 fn next_on(n: usize, at: usize) -> usize
     requires { at < n }
     ensures { result ≡ (at + 1) % n }
@@ -174,7 +131,8 @@ fn number_of(window: &[u16]) -> u32
     ensures { result ≡ window_number window.now }
 {
     let mut number: u32 = 0;
-    let mut i: usize = window.len();
+    // a `for` over the pairs in reverse was tried: a call for windows then runs a tenth more instructions, and more than the twin
+    let mut i = window.len();
     while 1 < i {
         i -= 2;
         let two = two_coordinates(window, i);
@@ -193,19 +151,17 @@ fn two_coordinates(window: &[u16], i: usize) -> TwoCoordinates
     let level_next = window[i + 1];
     let mut here: u32 = 0;
     let mut next: u32 = stands_after(level, level_next);
-    let mut j = 0;
-    while j < i {
-        here += stands_after(window[j], level);
-        next += stands_after(window[j], level_next);
-        j += 1;
+    for before in &window[..i] {
+        here += stands_after(*before, level);
+        next += stands_after(*before, level_next);
     }
     TwoCoordinates { here, next }
 }
 
 // 1 where a cell stands after a later one in the order, else 0, by the rule of reading.
+#[tactic(auto, unfolding(crate::specs::Steps::stands_after))]
 fn stands_after(level: u16, later: u16) -> u32
     ensures { result ≡ stands_after level later }
 {
-    let above = sensing::stands_above(level, later);
-    if above { 0 } else { 1 }
+    u32::from(!sensing::stands_above(level, later))
 }

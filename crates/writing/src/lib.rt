@@ -2,8 +2,7 @@
 // and answers them by one equation with a definition of `push_up`, which has its laws too.
 #![tactic(auto)]
 
-ghost use Rattle.std.specs.Prelude.{◌≡◌, true, ◌≤◌};
-ghost use Rattle.order.specs.Cells.{is_order};
+ghost use Rattle.std.specs.Prelude.{◌≡◌, true};
 ghost use Rattle.order.specs.Order.{listed};
 ghost use Rattle.group.specs.Record.{all_at_most};
 ghost use Rattle.push_up.specs.WriteAnswer.{told_written, write_of};
@@ -11,65 +10,36 @@ ghost use Rattle.push_up.specs.PushUp.{singles};
 ghost use Rattle.push_up.specs.Steps.{push_up_to};
 
 use group::Group;
-use order::{Order, Outcome, Refusal};
+use order::{Checked, Order, Refusal};
 use push_up::{PushUp, Written};
 
 // Minimal push-up to an order.
-pub fn write(g: Group, target: Order) -> Written
-    ensures { told_written result ≡ write_of g target }
+#[tactic(auto, unfolding(order::specs::Refusals::number_of, order::specs::Refusals::answer, push_up::specs::WriteAnswer::write_of))]
+pub fn write(g: Group, target: Order) -> Result<Written, Refusal>
+    ensures { told_written g result ≡ write_of g target }
 {
-    let checked = group::check(g);
-    let Outcome::Done = checked else {
-        return push_up::unwritten(checked, g);
+    group::check(g)?;
+    let Some(target) = Checked::of(target, g.n) else {
+        return Err(Refusal::NoOrder);
     };
-    if !order::is_order(target, g.n) {
-        return push_up::unwritten(Outcome::Refused(Refusal::NoOrder), g);
-    }
-    let old = g.levels;
-    let caps = g.caps;
-    let p = raise_all(target, old);
-    let levels = p.levels;
-    if !push_up::is_within(levels, caps) {
-        return push_up::unwritten(Outcome::Refused(Refusal::Worn), g);
-    }
-    let used_before = g.used;
-    let tallies = push_up::add_rises(used_before, old, levels, g.endurance);
-    if !tallies.lasting {
-        return push_up::unwritten(Outcome::Refused(Refusal::Spent), g);
-    }
-    let used = tallies.used;
-    let pushes = p.pushes;
-    // the record stands here field by field: one that a call returns is copied with its padding
-    Written {
-        outcome: Outcome::Done,
-        group: Group {
-            n: g.n,
-            levels,
-            caps,
-            used,
-            endurance: g.endurance,
-            written: true,
-        },
-        pulses: p.pulses,
-        count: p.count,
-        pushes,
-    }
+    let p = raise_all(target, g.levels);
+    let used = push_up::used_after(g, p.levels)?;
+    Ok(push_up::programmed(g, p, used, true))
 }
 
 // The push-up of a whole order, from its lowest cell: each next cell up takes the larger of its level and the floor, and the floor goes to one
-// more than that.
-fn raise_all(o: Order, old: [u16; 12]) -> PushUp
-    requires { (is_order o.len (listed o) ≡ true) × (o.len ≤ 12) × (all_at_most 4095 old ≡ true) }
-    ensures { result ≡ push_up_to 1 (singles (listed o)) old }
+// more than that. The levels are a checked group's, here and in two functions of `sharing`: a type for them would be made by a second check, or of a copy.
+fn raise_all(target: Checked, old: [u16; 12]) -> PushUp
+    requires { all_at_most 4095 old ≡ true }
+    ensures { result ≡ push_up_to 1 (singles (listed target.order)) old }
 {
+    let o = target.order;
     let mut levels = old;
     let mut floor: u16 = 0;
     let mut pulses: u32 = 0;
     let mut count: usize = 0;
     let mut pushes = push_up::zero_pushes();
-    let mut i = o.len;
-    while 0 < i {
-        i -= 1;
+    for i in (0..o.len).rev() {
         let cell = o.cells[i];
         let at = cell.number() - 1;
         let level = levels[at];
@@ -80,7 +50,7 @@ fn raise_all(o: Order, old: [u16; 12]) -> PushUp
             pushes[count].reach = floor;
             count += 1;
             levels[at] = floor;
-            pulses += (floor - level) as u32;
+            pulses += u32::from(floor - level);
             floor += 1;
         } else {
             floor = level + 1;

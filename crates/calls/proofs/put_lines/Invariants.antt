@@ -1,11 +1,9 @@
 -- `calls::put_lines` meets its contract.
-use Prim.Native.Nat.{◌-◌}
+use Prim.Native.Nat.{◌/◌}
+use lib.ListN.{length}
 use Rattle.calls.proofs.Running.{Running}
 use Rattle.calls.proofs.put_lines.Given as goal
 
 abbrev pub invariant-loop-i : goal.invariant-loop-i
 invariant-loop-i l =
-    Running (record { position = l.initial.position; group = l.initial.g; pulses = l.initial.pulses }) l.input l.count l.initial.out l.out (record { position = l.position; group = l.g; pulses = l.pulses }) l.end l.i
-
-abbrev pub decreases-loop-i : goal.decreases-loop-i
-decreases-loop-i l = l.count - l.i
+    Running (record { position = l.initial.position; group = l.initial.g; pulses = l.initial.pulses }) l.input (length l.input / 8) l.initial.out l.out (record { position = l.position; group = l.g; pulses = l.pulses }) l.end l.i

@@ -1,34 +1,30 @@
--- `code::number` meets its contract: the arm of size 3 + k has block k of the table, which passed the test.
+-- `code::number` meets its contract, by the invariant of Summing.
+use mathlib.Core.Path.{◌≡◌}
 use native.Mathlib.Omega.{arith}
-use Rattle.code.proofs.Rule.{rule}
+use borrow.Author.Rules.{rules}
+use Rattle.decoder.specs.Decoding.{modulus}
+use Rattle.code.specs.Tails.{owed, before}
+use Rattle.code.proofs.Scanning.{at}
+use Rattle.code.proofs.Summing.{cells, start, step, end, choosing, sum_fits}
 use Rattle.code.proofs.number.Goals as goal
 
-pub number_by-requires-clause-block : goal.number_by-requires-clause-block
-number_by-requires-clause-block c = rule _ c.tail_counts.ensures 0 (omega arith)
+pub loop-i-init : goal.loop-i-init
+loop-i-init c = start _ (search rules) c.requires.0 c.requires.1
 
-pub number_by-requires-in-4-clause-block : goal.number_by-requires-in-4-clause-block
-number_by-requires-in-4-clause-block c = rule _ c.tail_counts-in-4.ensures 1 (omega arith)
+pub pass-passed-requires-clause-v_le_i : goal.pass-passed-requires-clause-v_le_i
+pass-passed-requires-clause-v_le_i c =
+    let (place, range) = choosing _ _ _ _ c.loop-i.invariant (omega arith) in
+    omega arith
 
-pub number_by-requires-in-5-clause-block : goal.number_by-requires-in-5-clause-block
-number_by-requires-in-5-clause-block c = rule _ c.tail_counts-in-5.ensures 2 (omega arith)
+pub overflow_add-sum : goal.overflow_add-sum
+overflow_add-sum c =
+    let passed : (c.pass-passed.result.count ≡ before (cells c.args.x) c.loop-i.i c.loop-i.r (at c.args.x c.loop-i.i)) × (c.pass-passed.result.residue ≡ owed (modulus (cells c.args.x)) c.loop-i.i c.loop-i.r (at c.args.x c.loop-i.i)) = rw (c.new-counts.ensures, c.from-v.ensures) at c.pass-passed.ensures in
+    omega (arith, sum_fits _ _ _ _ c.loop-i.invariant (omega arith), passed)
 
-pub number_by-requires-in-6-clause-block : goal.number_by-requires-in-6-clause-block
-number_by-requires-in-6-clause-block c = rule _ c.tail_counts-in-6.ensures 3 (omega arith)
+pub loop-i-preserved : goal.loop-i-preserved
+loop-i-preserved c =
+    let passed : (c.pass-passed.result.count ≡ before (cells c.args.x) c.loop-i.i c.loop-i.r (at c.args.x c.loop-i.i)) × (c.pass-passed.result.residue ≡ owed (modulus (cells c.args.x)) c.loop-i.i c.loop-i.r (at c.args.x c.loop-i.i)) = rw (c.new-counts.ensures, c.from-v.ensures) at c.pass-passed.ensures in
+    step _ _ _ _ c.loop-i.invariant (omega arith) _ _ passed.0 passed.1
 
-pub number_by-requires-in-7-clause-block : goal.number_by-requires-in-7-clause-block
-number_by-requires-in-7-clause-block c = rule _ c.tail_counts-in-7.ensures 4 (omega arith)
-
-pub number_by-requires-in-8-clause-block : goal.number_by-requires-in-8-clause-block
-number_by-requires-in-8-clause-block c = rule _ c.tail_counts-in-8.ensures 5 (omega arith)
-
-pub number_by-requires-in-9-clause-block : goal.number_by-requires-in-9-clause-block
-number_by-requires-in-9-clause-block c = rule _ c.tail_counts-in-9.ensures 6 (omega arith)
-
-pub number_by-requires-in-10-clause-block : goal.number_by-requires-in-10-clause-block
-number_by-requires-in-10-clause-block c = rule _ c.tail_counts-in-10.ensures 7 (omega arith)
-
-pub number_by-requires-in-11-clause-block : goal.number_by-requires-in-11-clause-block
-number_by-requires-in-11-clause-block c = rule _ c.tail_counts-in-11.ensures 8 (omega arith)
-
-pub number_by-requires-in_default-clause-block : goal.number_by-requires-in_default-clause-block
-number_by-requires-in_default-clause-block c = rule _ c.tail_counts-in_default.ensures 9 (omega arith)
+pub returns : goal.returns
+returns c = end _ _ _ _ c.loop-i.invariant (omega arith)

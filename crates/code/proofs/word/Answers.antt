@@ -1,34 +1,13 @@
--- `code::word` meets its contract: the arm of size 3 + k has block k of the table, which passed the test.
-use native.Mathlib.Omega.{arith}
-use Rattle.code.proofs.Rule.{rule}
+-- `code::word` meets its contract, by the invariant of Filling.
+use Rattle.code.proofs.Filling.{start, step, end}
 use Rattle.code.proofs.word.Goals as goal
 
-pub word_by-requires-clause-block : goal.word_by-requires-clause-block
-word_by-requires-clause-block c = rule _ c.tail_counts.ensures 0 (omega arith)
+pub loop-i-init : goal.loop-i-init
+loop-i-init c =
+    start _ _ (record { low = c.args.counts.least; high = c.args.counts.most; some = c.requires })
 
-pub word_by-requires-in-4-clause-block : goal.word_by-requires-in-4-clause-block
-word_by-requires-in-4-clause-block c = rule _ c.tail_counts-in-4.ensures 1 (omega arith)
+pub loop-i-preserved : goal.loop-i-preserved
+loop-i-preserved c = step _ _ _ _ _ _ c.loop-i.invariant _ c.loop-i-test.true c.choose-c.ensures
 
-pub word_by-requires-in-5-clause-block : goal.word_by-requires-in-5-clause-block
-word_by-requires-in-5-clause-block c = rule _ c.tail_counts-in-5.ensures 2 (omega arith)
-
-pub word_by-requires-in-6-clause-block : goal.word_by-requires-in-6-clause-block
-word_by-requires-in-6-clause-block c = rule _ c.tail_counts-in-6.ensures 3 (omega arith)
-
-pub word_by-requires-in-7-clause-block : goal.word_by-requires-in-7-clause-block
-word_by-requires-in-7-clause-block c = rule _ c.tail_counts-in-7.ensures 4 (omega arith)
-
-pub word_by-requires-in-8-clause-block : goal.word_by-requires-in-8-clause-block
-word_by-requires-in-8-clause-block c = rule _ c.tail_counts-in-8.ensures 5 (omega arith)
-
-pub word_by-requires-in-9-clause-block : goal.word_by-requires-in-9-clause-block
-word_by-requires-in-9-clause-block c = rule _ c.tail_counts-in-9.ensures 6 (omega arith)
-
-pub word_by-requires-in-10-clause-block : goal.word_by-requires-in-10-clause-block
-word_by-requires-in-10-clause-block c = rule _ c.tail_counts-in-10.ensures 7 (omega arith)
-
-pub word_by-requires-in-11-clause-block : goal.word_by-requires-in-11-clause-block
-word_by-requires-in-11-clause-block c = rule _ c.tail_counts-in-11.ensures 8 (omega arith)
-
-pub word_by-requires-in_default-clause-block : goal.word_by-requires-in_default-clause-block
-word_by-requires-in_default-clause-block c = rule _ c.tail_counts-in_default.ensures 9 (omega arith)
+pub returns : goal.returns
+returns c = end _ _ _ _ _ _ c.loop-i.invariant c.loop-i-test.false

@@ -1,38 +1,23 @@
 -- `cost::ranks_of_pair` meets its contract. Where the pair passes its checks each order passes its own, so neither is refused its ranks.
-use mathlib.Core.Path.{◌≡◌}
-use Rattle.order.specs.declared.Outcome.TheVariants.{Done}
-use Rattle.order.specs.Refusals.{number_of}
-use Rattle.order.specs.Order.{pair_checks}
-use Rattle.ranks.specs.Ranks.{ranks_of}
-use Rattle.order.proofs.Refusals.{accepted, passed_on, told_done}
-use Rattle.cost.specs.Steps.{ranks_of_pair}
+use Rattle.order.proofs.Refusals.{accepted, told_done}
 use Rattle.order.proofs.Pairs.{passed_first, passed_second}
-use Rattle.cost.proofs.Pairs.{ranks_done, not_both}
+use Rattle.cost.specs.Steps.{ranks_of_pair}
+use Rattle.cost.proofs.Pairs.{ranks_found, not_refused}
 use Rattle.cost.proofs.ranks_of_pair.Goals as goal
 
-pub returns-in_default : goal.returns-in_default
-unfolding ranks_of_pair
-returns-in_default c =
-    rw c.no_pair.ensures
-    (passed_on _ _ _ _ c.check_pair-outcome.ensures _ c.in_default.is)
+pub returns-in_err-ranks_of : goal.returns-in_err-ranks_of
+returns-in_err-ranks_of c =
+    let done = accepted c.check_pair.ensures c.in_ok-check_pair.was in
+    absurd (not_refused c.args.u _ c.ranks_of.ensures (passed_first c.args.u c.args.v done) _ c.in_err-ranks_of.was)
 
-pub returns-in_default-from_outcome : goal.returns-in_default-from_outcome
-returns-in_default-from_outcome c =
-    let done : number_of (pair_checks c.args.u c.args.v) ≡ 0 = accepted c.check_pair-outcome.ensures c.in-Done.is in
-    let first : (c.ranks_of-from.result.outcome ≡ Done) × (c.ranks_of-from.result.ranks ≡ ranks_of c.args.u) = ranks_done c.args.u _ c.ranks_of-from.ensures (passed_first c.args.u c.args.v (done)) in
-    absurd (not_both (first).0 c.in_default-from_outcome.is)
-
-pub returns-in_default-to_outcome : goal.returns-in_default-to_outcome
-returns-in_default-to_outcome c =
-    let done : number_of (pair_checks c.args.u c.args.v) ≡ 0 = accepted c.check_pair-outcome.ensures c.in-Done.is in
-    let second : (c.ranks_of-to.result.outcome ≡ Done) × (c.ranks_of-to.result.ranks ≡ ranks_of c.args.v) = ranks_done c.args.v _ c.ranks_of-to.ensures (passed_second c.args.u c.args.v (done)) in
-    absurd (not_both (second).0 c.in_default-to_outcome.is)
+pub returns-in_err-ranks_of-2 : goal.returns-in_err-ranks_of-2
+returns-in_err-ranks_of-2 c =
+    let done = accepted c.check_pair.ensures c.in_ok-check_pair.was in
+    absurd (not_refused c.args.v _ c.ranks_of-2.ensures (passed_second c.args.u c.args.v done) _ c.in_err-ranks_of-2.was)
 
 pub returns : goal.returns
 unfolding ranks_of_pair
 returns c =
-    let done : number_of (pair_checks c.args.u c.args.v) ≡ 0 = accepted c.check_pair-outcome.ensures c.in-Done.is in
-    let first : (c.ranks_of-from.result.outcome ≡ Done) × (c.ranks_of-from.result.ranks ≡ ranks_of c.args.u) = ranks_done c.args.u _ c.ranks_of-from.ensures (passed_first c.args.u c.args.v (done)) in
-    let second : (c.ranks_of-to.result.outcome ≡ Done) × (c.ranks_of-to.result.ranks ≡ ranks_of c.args.v) = ranks_done c.args.v _ c.ranks_of-to.ensures (passed_second c.args.u c.args.v (done)) in
-    rw ((first).1, (second).1)
-    (told_done _ _ _ (done))
+    let done = accepted c.check_pair.ensures c.in_ok-check_pair.was in
+    rw (ranks_found c.args.u _ c.ranks_of.ensures (passed_first c.args.u c.args.v done) _ c.in_ok-ranks_of.was, ranks_found c.args.v _ c.ranks_of-2.ensures (passed_second c.args.u c.args.v done) _ c.in_ok-ranks_of-2.was)
+    (told_done _ _ _ done)

@@ -1,77 +1,66 @@
 -- `decoder::nearest` meets its contract.
+use Rattle.std.proofs.Common.{rules}
 use native.Mathlib.Omega.{arith}
 use mathlib.Core.Path.{◌≡◌, refl, sym, ap, ◌∙◌}
-use Rattle.order.specs.Refusals.{outcome_number, number_of}
-use Rattle.order.specs.Order.{listed, order_checks}
-use Rattle.order.proofs.Refusals.{accepted}
+use Rattle.std.specs.Prelude.{Ok, Err}
+use Rattle.std.specs.Option.{ok_or}
+use Rattle.order.specs.declared.Refusal.TheVariants.{Lost}
+use Rattle.order.specs.Order.{listed}
 use Rattle.order.proofs.Numbers.{length_mapped}
 use Rattle.order.proofs.Records.{passed}
-use Rattle.coordinates.specs.Conversion.{coordinates_of}
-use Rattle.decoder.specs.Steps.{syndrome_of, Exchangeable}
-use Rattle.decoder.proofs.ZeroSyndrome.{same_number, same_coordinates, same_syndrome, passed_size}
-use Rattle.decoder.proofs.NearestWord.{nearest_refused, nearest_lost, nearest_clean, nearest_put_right, read_clean, read_place}
+use Rattle.decoder.specs.Decoding.{correction}
+use Rattle.decoder.specs.Steps.{Exchangeable, below_only}
+use Rattle.decoder.proofs.Looking.{place_some, place_none}
+use Rattle.decoder.proofs.ZeroSyndrome.{sweep_refused, sweep_passed, same_coordinates, passed_size}
+use Rattle.decoder.proofs.NearestWord.{nearest_refused, nearest_lost, nearest_clean, nearest_put_right, swept_clean, swept_misread, swept_place}
 use Rattle.decoder.proofs.nearest.Goals as goal
+use Rattle.decoder.proofs.nearest.Goals.{In_ok-sweep, In_ok-k}
 
-pub returns-in-Refused : goal.returns-in-Refused
-returns-in-Refused c =
-    c.no_word.ensures ∙ nearest_refused _ c.in-Refused.refusal (sym (same_number _ _ c.sweep_of-read.result c.sweep_of-read.ensures) ∙ ap outcome_number c.in-Refused.is)
+-- the place of the exchange that is found
+found : (c : In_ok-k) → Ok c.in_ok-k.k ≡ ok_or (below_only c.args.o.len (correction c.args.o.len (listed c.args.o))) Lost
+found c = sym c.in_ok-k.was ∙ c.ok_or.ensures.value ∙ ap (λ x. ok_or x Lost) c.exchange_for.ensures
+
+at_place : (c : In_ok-k) → Exchangeable c.args.o c.in_ok-k.k
+at_place c = swept_place _ _ c.in_ok-sweep.ensures c.syndrome-s.ensures (omega (arith, c.if-s-eq0.false)) (found c)
+
+pub returns-in_err-sweep : goal.returns-in_err-sweep
+returns-in_err-sweep c =
+    let o = c.args.o in
+    let refused = nearest_refused o c.in_err-sweep.field-0.0 (sweep_refused o o.len c.in_err-sweep.field-0.0 c.in_err-sweep.ensures) in
+    grind (refused, rules)
 
 pub syndrome-s-requires : goal.syndrome-s-requires
-syndrome-s-requires c =
-    let done : number_of (order_checks c.args.o) ≡ 0 = accepted (same_number _ _ c.sweep_of-read.result c.sweep_of-read.ensures) c.in_default.is in
-    passed_size _ done
+syndrome-s-requires c = passed_size _ (sweep_passed _ _ _ c.in_ok-sweep.ensures)
 
 -- the syndrome is 0
 pub returns-then-s-eq0 : goal.returns-then-s-eq0
 returns-then-s-eq0 c =
-    let done : number_of (order_checks c.args.o) ≡ 0 = accepted (same_number _ _ c.sweep_of-read.result c.sweep_of-read.ensures) c.in_default.is in
-    let coordinates : c.sweep_of-read.result.sweep.coordinates ≡ coordinates_of c.args.o = same_coordinates _ _ c.sweep_of-read.result c.sweep_of-read.ensures done (omega arith) in
-    let syndrome : let o = c.args.o in c.syndrome-s.result ≡ syndrome_of o.len (listed o) = c.syndrome-s.ensures ∙ same_syndrome _ _ c.sweep_of-read.result c.sweep_of-read.ensures done (omega arith) in
-    nearest_clean _ done (search length_mapped) (read_clean _ done (omega (arith, syndrome))) refl coordinates
+    let clean = swept_clean _ _ c.in_ok-sweep.ensures c.syndrome-s.ensures c.if-s-eq0.true in
+    nearest_clean _ (sweep_passed _ _ _ c.in_ok-sweep.ensures) (search length_mapped) clean refl (same_coordinates _ _ _ c.in_ok-sweep.ensures (omega arith))
 
 -- it is not
-pub exchange_for-k-requires : goal.exchange_for-k-requires
-exchange_for-k-requires c =
-    let done : number_of (order_checks c.args.o) ≡ 0 = accepted (same_number _ _ c.sweep_of-read.result c.sweep_of-read.ensures) c.in_default.is in
-    let syndrome : let o = c.args.o in c.syndrome-s.result ≡ syndrome_of o.len (listed o) = c.syndrome-s.ensures ∙ same_syndrome _ _ c.sweep_of-read.result c.sweep_of-read.ensures done (omega arith) in
-    record { passed = done; syndrome = syndrome; wrong = omega arith }
+pub exchange_for-requires : goal.exchange_for-requires
+exchange_for-requires c = swept_misread _ _ c.in_ok-sweep.ensures c.syndrome-s.ensures (omega (arith, c.if-s-eq0.false))
 
-pub returns-then-o-k : goal.returns-then-o-k
-returns-then-o-k c =
-    let done : number_of (order_checks c.args.o) ≡ 0 = accepted (same_number _ _ c.sweep_of-read.result c.sweep_of-read.ensures) c.in_default.is in
-    c.no_word-then-o-k.ensures ∙ nearest_lost _ done (omega (arith, c.exchange_for-k.ensures))
+pub returns-in_err-k : goal.returns-in_err-k
+returns-in_err-k c =
+    let o = c.args.o in
+    let e : Err c.in_err-k.field-0.0 ≡ ok_or (below_only o.len (correction o.len (listed o))) Lost = sym c.in_err-k.was ∙ c.ok_or.ensures.value ∙ ap (λ x. ok_or x Lost) c.exchange_for.ensures in
+    let (refusal, far) = place_none o.len (correction o.len (listed o)) e in
+    let lost = nearest_lost o (sweep_passed _ _ _ c.in_ok-sweep.ensures) far in
+    grind (refusal, lost, rules)
 
 pub overflow_cast-place : goal.overflow_cast-place
-overflow_cast-place c =
-    let done : number_of (order_checks c.args.o) ≡ 0 = accepted (same_number _ _ c.sweep_of-read.result c.sweep_of-read.ensures) c.in_default.is in
-    let syndrome : let o = c.args.o in c.syndrome-s.result ≡ syndrome_of o.len (listed o) = c.syndrome-s.ensures ∙ same_syndrome _ _ c.sweep_of-read.result c.sweep_of-read.ensures done (omega arith) in
-    let place : Exchangeable c.args.o c.exchange_for-k.result = read_place (record { passed = done; syndrome = syndrome; wrong = omega arith }) c.exchange_for-k.ensures (omega arith) in
-    let e = place in
-    omega (arith, e.last, (passed c.args.o e.passed).1)
+overflow_cast-place c = let e = at_place c in omega (arith, e.last, (passed c.args.o e.passed).1)
 
 pub exchanged-word-requires : goal.exchanged-word-requires
-exchanged-word-requires c =
-    let done : number_of (order_checks c.args.o) ≡ 0 = accepted (same_number _ _ c.sweep_of-read.result c.sweep_of-read.ensures) c.in_default.is in
-    let syndrome : let o = c.args.o in c.syndrome-s.result ≡ syndrome_of o.len (listed o) = c.syndrome-s.ensures ∙ same_syndrome _ _ c.sweep_of-read.result c.sweep_of-read.ensures done (omega arith) in
-    let place : Exchangeable c.args.o c.exchange_for-k.result = read_place (record { passed = done; syndrome = syndrome; wrong = omega arith }) c.exchange_for-k.ensures (omega arith) in
-    place
+exchanged-word-requires c = at_place c
 
 pub corrected_coordinates-requires : goal.corrected_coordinates-requires
 corrected_coordinates-requires c =
-    let done : number_of (order_checks c.args.o) ≡ 0 = accepted (same_number _ _ c.sweep_of-read.result c.sweep_of-read.ensures) c.in_default.is in
-    let coordinates : c.sweep_of-read.result.sweep.coordinates ≡ coordinates_of c.args.o = same_coordinates _ _ c.sweep_of-read.result c.sweep_of-read.ensures done (omega arith) in
-    let syndrome : let o = c.args.o in c.syndrome-s.result ≡ syndrome_of o.len (listed o) = c.syndrome-s.ensures ∙ same_syndrome _ _ c.sweep_of-read.result c.sweep_of-read.ensures done (omega arith) in
-    let place : Exchangeable c.args.o c.exchange_for-k.result = read_place (record { passed = done; syndrome = syndrome; wrong = omega arith }) c.exchange_for-k.ensures (omega arith) in
-    let e = place in
-    let (low, _, _) = passed c.args.o e.passed in
-    let first = e.first in
-    let last = e.last in
-    (record { passed = e.passed; first = omega arith; last = omega arith }, coordinates)
+    (at_place (goal.at.corrected_coordinates-requires c).In_ok-k, same_coordinates _ _ _ c.in_ok-sweep.ensures (omega arith))
 
 pub returns : goal.returns
 returns c =
-    let done : number_of (order_checks c.args.o) ≡ 0 = accepted (same_number _ _ c.sweep_of-read.result c.sweep_of-read.ensures) c.in_default.is in
-    let syndrome : let o = c.args.o in c.syndrome-s.result ≡ syndrome_of o.len (listed o) = c.syndrome-s.ensures ∙ same_syndrome _ _ c.sweep_of-read.result c.sweep_of-read.ensures done (omega arith) in
-    let place : Exchangeable c.args.o c.exchange_for-k.result = read_place (record { passed = done; syndrome = syndrome; wrong = omega arith }) c.exchange_for-k.ensures (omega arith) in
-    let e = place in
-    nearest_put_right _ e.passed _ (omega (arith, c.exchange_for-k.ensures)) (omega (arith, e.last)) _ c.exchanged-word.ensures _ c.corrected_coordinates.ensures
+    let (place, low) = place_some _ _ (found (goal.at.returns c).In_ok-k) in
+    nearest_put_right _ (sweep_passed _ _ _ c.in_ok-sweep.ensures) _ place low _ c.exchanged-word.ensures _ c.corrected_coordinates.ensures

@@ -1,12 +1,7 @@
--- `distance::drop_at` meets its contract. The loop's invariant: the gap is closed as far as place i.
-use native.Mathlib.Omega.{arith}
-use Rattle.order.proofs.Numbers.{length_mapped, length_places}
-use Rattle.distance.proofs.Gap.{closed_none, closed_store}
+-- `distance::drop_at` meets its contract.
+use Rattle.std.proofs.Common.{rules}
+use Rattle.distance.proofs.Gap.{closed}
 use Rattle.distance.proofs.drop_at.Goals as goal
 
-pub loop-i-init : goal.loop-i-init
-loop-i-init c = (omega arith, length_places _ (search length_mapped), closed_none _ _)
-
-pub loop-i-preserved : goal.loop-i-preserved
-loop-i-preserved c =
-    (omega arith, c.loop-i.invariant.1, closed_store c.loop-i.w c.loop-i.invariant.2 c.requires.0 (omega arith))
+pub returns : goal.returns
+returns c = closed c.args.v c.copy_within.new.self c.requires.0 c.requires.1 c.requires.2 (search rules) c.copy_within.ensures.after

@@ -1,10 +1,6 @@
 -- `insertion::are_in_range` meets its contract. The loop's invariant: `within` says whether the first `k` coordinates are in range.
-use Prim.Native.Nat.{◌-◌}
 use Rattle.insertion.proofs.Ranging.{RangedTo}
 use Rattle.insertion.proofs.are_in_range.Given as goal
 
 abbrev pub invariant-loop-k : goal.invariant-loop-k
-invariant-loop-k l = RangedTo l.x l.within l.k
-
-abbrev pub decreases-loop-k : goal.decreases-loop-k
-decreases-loop-k l = 11 - l.k
+invariant-loop-k l = RangedTo l.fn.x l.within l.k

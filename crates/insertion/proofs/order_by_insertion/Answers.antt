@@ -10,14 +10,14 @@ pub loop-i-init : goal.loop-i-init
 loop-i-init c = built_one _ (search rules) c.requires.0 c.requires.1
 
 pub overflow_sub-at : goal.overflow_sub-at
-overflow_sub-at c = coordinate_low c.loop-i.invariant c.loop-i-test.true c.wide.ensures
+overflow_sub-at c = coordinate_low c.loop-i.invariant c.loop-i-test.true c.from.ensures
 
 pub loop-j-init : goal.loop-j-init
 loop-j-init c = built_room c.loop-i.invariant c.loop-i-test.true _ (omega arith)
 
 pub loop-i-preserved : goal.loop-i-preserved
 loop-i-preserved c =
-    rw (moved_all c.loop-j.invariant _ c.loop-j-test.false) (built_more c.loop-i.invariant c.loop-i-test.true c.wide.ensures)
+    rw (moved_all c.loop-j.invariant _ c.loop-j-test.false) (built_more c.loop-i.invariant c.loop-i-test.true c.from.ensures)
 
 pub returns : goal.returns
 returns c = built_all c.loop-i.invariant c.loop-i-test.false

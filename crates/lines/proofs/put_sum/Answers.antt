@@ -1,23 +1,28 @@
 -- `lines::put_sum` meets its contract.
+use borrow.Author.Rules.{rules}
+use mathlib.Core.Path.{◌≡◌, refl}
 use Prim.Native.Nat.{ℕ}
-use mathlib.Core.List.{List, [], ◌∷◌, ◌++◌}
 use native.Mathlib.Omega.{arith}
+use mathlib.Core.List.{[], ◌∷◌, ◌++◌}
 use Rattle.lines.specs.Line.{after, sum_line}
-use Rattle.lines.specs.Puts.{Puts}
+use Rattle.lines.proofs.Adds.{adds_as, put_from}
 use Rattle.lines.proofs.InRoom.{none_put, line_put}
 use Rattle.lines.proofs.put_sum.Goals as goal
 
-text_put : (pulses : ℕ) {xs ys : List ℕ} {at end : ℕ} → Puts xs ys at end (115 ∷ 117 ∷ 109 ∷ after 32 pulses ++ 10 ∷ []) → Puts xs ys at end (sum_line pulses)
+line : (k : ℕ) → 115 ∷ 117 ∷ 109 ∷ after 32 k ++ 10 ∷ [] ≡ sum_line k
 unfolding sum_line
-text_put pulses p = p
+line k = refl
 
 pub returns-then-out-at-clause-out_after : goal.returns-then-out-at-clause-out_after
 returns-then-out-at-clause-out_after c = (none_put _ _ _ _ (omega (arith, c.if-out-at.true))).1.0
 
-pub returns-clause-value : goal.returns-clause-value
-returns-clause-value c =
-    (line_put _ _ _ _ (omega (arith, c.if-out-at.false)) (text_put c.args.pulses c.put_named.ensures.puts) c.put_named.ensures.upper_bound).0
+pub put_named-requires : goal.put_named-requires
+put_named-requires c = rw c.new-text.ensures.buffer (omega (arith, c.if-out-at.false))
 
-pub returns-clause-out_after : goal.returns-clause-out_after
-returns-clause-out_after c =
-    (line_put _ _ _ _ (omega (arith, c.if-out-at.false)) (text_put c.args.pulses c.put_named.ensures.puts) c.put_named.ensures.upper_bound).1.0
+pub returns : goal.returns
+returns c =
+    let put =
+    line_put _ _ _ _ (omega (arith, c.if-out-at.false))
+    (put_from c.new-text.ensures.buffer c.new-text.ensures.place (search rules) (adds_as (line _) c.put_named.ensures))
+    (omega arith) in
+    record { value = put.0; out_after = put.1.0; upper_bound = put.1.1 }

@@ -12,21 +12,21 @@ use Rattle.order.proofs.lists_each_once.Goals as goal
 bit : (k : ℕ) → k ≤ 15 → (1 ≤ 2 ^ k) × (2 ^ k ≤ 2 ^ 15)
 bit k l = (pow_pos k, pow_mono {i = k} {j = 15} l)
 
-pub loop-i-init : goal.loop-i-init
-loop-i-init c = met_none _ (length_places _ (search length_mapped))
+pub loop-cell-init : goal.loop-cell-init
+loop-cell-init c = met_none _ (length_places _ (search length_mapped))
 
 pub overflow_shl-met : goal.overflow_shl-met
 overflow_shl-met c =
-    let small : (get_or c.args.o.cells c.loop-i.i (record { 0 = 0 })).0 ≤ 15 = rw (place_at _ _) (padded_small _ _ _ c.requires.1) in
+    let small : (get_or c.args.o.cells c.loop-cell.cell-index (record { 0 = 0 })).0 ≤ 15 = rw (place_at _ _) (padded_small _ _ _ c.requires.1) in
     omega (arith, small)
 
-pub loop-i-preserved : goal.loop-i-preserved
-loop-i-preserved c =
-    let small : (get_or c.args.o.cells c.loop-i.i (record { 0 = 0 })).0 ≤ 15 = rw (place_at _ _) (padded_small _ _ _ c.requires.1) in
+pub loop-cell-preserved : goal.loop-cell-preserved
+loop-cell-preserved c =
+    let small : (get_or c.args.o.cells c.loop-cell.cell-index (record { 0 = 0 })).0 ≤ 15 = rw (place_at _ _) (padded_small _ _ _ c.requires.1) in
     let b = bit _ (small) in
-    met_more c.loop-i.invariant c.loop-i-test.true (place_at _ _) (small) (omega (arith, b))
+    met_more c.loop-cell.invariant c.loop-cell-test.true (place_at _ _) (small) (omega (arith, b))
 
 pub returns : goal.returns
 returns c =
     let b = bit c.args.o.len (omega (arith, c.requires.0)) in
-    met_all c.loop-i.invariant c.loop-i-test.false _ c.requires.0 (padded_zeros _ _ c.requires.1) (omega (arith, b))
+    met_all c.loop-cell.invariant c.loop-cell-test.false _ c.requires.0 (padded_zeros _ _ c.requires.1) (omega (arith, b))

@@ -1,11 +1,6 @@
 -- `order::order_with` meets its contract. The loop's invariant: the first `i` numbers are in place.
-use Prim.Native.Nat.{◌-◌}
-use lib.ListN.{length}
 use Rattle.order.proofs.Filling.{Filled}
 use Rattle.order.proofs.order_with.Given as goal
 
 abbrev pub invariant-loop-i : goal.invariant-loop-i
 invariant-loop-i l = Filled l.cells l.held l.i
-
-abbrev pub decreases-loop-i : goal.decreases-loop-i
-decreases-loop-i l = length l.cells - l.i

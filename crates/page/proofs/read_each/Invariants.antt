@@ -1,10 +1,6 @@
 -- `page::read_each` meets its contract. The loop's invariant: the first `i` groups are read, and their symbols are in place.
-use Prim.Native.Nat.{◌-◌}
 use Rattle.page.proofs.Pages.{ReadTo}
 use Rattle.page.proofs.read_each.Given as goal
 
 abbrev pub invariant-loop-i : goal.invariant-loop-i
-invariant-loop-i l = ReadTo l.page l.symbols l.i
-
-abbrev pub decreases-loop-i : goal.decreases-loop-i
-decreases-loop-i l = l.count - l.i
+invariant-loop-i l = ReadTo l.fn.page l.symbols l.i-counter

@@ -1,21 +1,11 @@
--- `push_list::write_shared_into` meets its contract: what was decided has room, and the list is filled by what the answer carries.
-use mathlib.Core.Path.{◌∙◌, ap, sym}
+-- `push_list::write_shared_into` meets its contract: the pushes have room.
+use mathlib.Core.Path.{ap, sym, ◌∙◌}
 use lib.ListN.{length}
 use Rattle.order.specs.Refusals.{Told}
-use Rattle.push_up.specs.WriteAnswer.{Program}
+use Rattle.push_up.specs.WriteAnswer.{Program, told_written}
 use Rattle.push_room.proofs.Answers.{into_few, shared_into_answer}
-use Rattle.push_list.specs.LentWrite.{carried_of}
-use Rattle.push_list.proofs.Written.{filled_by, list_filled}
 use Rattle.push_list.proofs.write_shared_into.Goals as goal
 
-pub fill-requires : goal.fill-requires
-fill-requires c =
-    rw (ap (λ (p : Told Program). p.value.count) c.decide_shared-plan.ensures) (into_few (shared_into_answer c.args.g (length c.args.list.now) c.args.target))
-
-pub returns : goal.returns
-returns c =
-    let decided = c.decide_shared-plan.ensures in
-    let list = c.args.list.now in (
-      ap carried_of decided,
-      c.fill.ensures ∙ ap (λ (p : Told Program). filled_by p list) decided ∙ sym (list_filled list (shared_into_answer c.args.g (length list) c.args.target)),
-    )
+pub put_into-requires : goal.put_into-requires
+put_into-requires c w e =
+    rw (ap (λ (t : Told Program). t.value.count) (ap (told_written c.args.g) (sym e) ∙ c.write_shared_with_room-answer.ensures)) (into_few (shared_into_answer c.args.g (length c.args.list.now) c.args.target))

@@ -1,5 +1,5 @@
--- `push_up::add_rises` meets its contract. The invariant: the rises passed are added. The measure is what is left.
-use Rattle.std.proofs.Common.{◌≡◌, ◌-◌, true}
+-- `push_up::add_rises` meets its contract. The invariant: the rises passed are added.
+use Rattle.std.proofs.Common.{◌≡◌, true}
 use Rattle.group.specs.Record.{is_endurance}
 use Rattle.push_up.proofs.Rises.{Adding}
 use Rattle.push_up.proofs.add_rises.Given as goal
@@ -7,6 +7,3 @@ use Rattle.push_up.proofs.add_rises.Given as goal
 -- where the endurance is in its range
 abbrev pub invariant-loop-i : goal.invariant-loop-i
 invariant-loop-i l = is_endurance l.endurance ≡ true → Adding l.endurance l.used l.old l.new l.sums l.over l.i
-
-abbrev pub decreases-loop-i : goal.decreases-loop-i
-decreases-loop-i l = 12 - l.i

@@ -1,4 +1,4 @@
--- `push_up::is_within` meets its contract. The invariant: what is tested and what is left decide. The measure is what is left.
+-- `push_up::is_within` meets its contract. The invariant: what is tested and what is left decide.
 use Rattle.std.proofs.Common.{◌≡◌, leb, length, sym, ◌∙◌, arith, drop_of_length-le, rules}
 use mathlib.Core.Bool.{and-true}
 use Rattle.order.proofs.Bits.{zero_test}

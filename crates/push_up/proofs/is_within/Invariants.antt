@@ -1,10 +1,7 @@
--- `push_up::is_within` meets its contract. The invariant: what is tested and what is left decide. The measure is what is left.
-use Rattle.std.proofs.Common.{◌≡◌, ◌-◌, ◌&&◌, leb, drop}
+-- `push_up::is_within` meets its contract. The invariant: what is tested and what is left decide.
+use Rattle.std.proofs.Common.{◌≡◌, ◌&&◌, leb, drop}
 use Rattle.group.specs.Levels.{at_most}
 use Rattle.push_up.proofs.is_within.Given as goal
 
 abbrev pub invariant-loop-at : goal.invariant-loop-at
 invariant-loop-at l = (leb l.over 0 && at_most (drop l.at l.levels) (drop l.at l.caps)) ≡ at_most l.levels l.caps
-
-abbrev pub decreases-loop-at : goal.decreases-loop-at
-decreases-loop-at l = 12 - l.at

@@ -4,8 +4,5 @@ use Rattle.ranks.specs.Ranks.{rank_numbers}
 use Rattle.ranks.proofs.Ranking.{Placed}
 use Rattle.ranks.proofs.cells_by_sweep.Given as goal
 
-abbrev pub invariant-loop-c : goal.invariant-loop-c
-invariant-loop-c l = Placed cell (rank_numbers l.r) l.r.len l.cells l.c
-
-abbrev pub decreases-loop-c : goal.decreases-loop-c
-decreases-loop-c l = l.c
+abbrev pub invariant-loop-i : goal.invariant-loop-i
+invariant-loop-i l = Placed cell (rank_numbers l.r) l.n l.cells l.i

@@ -6,6 +6,3 @@ use Rattle.ranks.proofs.ranks_by_sweep.Given as goal
 
 abbrev pub invariant-loop-i : goal.invariant-loop-i
 invariant-loop-i l = Placed rank (cell_numbers l.o) l.o.len l.ranks l.i
-
-abbrev pub decreases-loop-i : goal.decreases-loop-i
-decreases-loop-i l = l.i

@@ -8,7 +8,4 @@ use Rattle.sharing.proofs.are_sizes.Given as goal
 
 abbrev pub invariant-loop-i : goal.invariant-loop-i
 invariant-loop-i l =
-    (l.i ≤ 12) × (l.total ≤ 255 * l.i) × (sizes_left (l.count - l.i) l.total l.n (drop l.i l.target.sizes) ≡ is_sizes l.n l.target)
-
-abbrev pub decreases-loop-i : goal.decreases-loop-i
-decreases-loop-i l = 12 - l.i
+    (l.i ≤ 12) × (l.total ≤ 255 * l.i) × (sizes_left (l.fn.target.count - l.i) l.total l.n (drop l.i l.fn.target.sizes) ≡ is_sizes l.n l.fn.target)

@@ -7,7 +7,4 @@ use Rattle.sharing.specs.Steps.{part, Flags}
 use Rattle.sharing.proofs.on_rank.Given as goal
 
 abbrev pub invariant-loop-i : goal.invariant-loop-i
-invariant-loop-i l = (l.first ≤ l.i) × (l.i ≤ l.end) × Flags l.on (part l.i l.end (listed l.cells)) × (length l.on ≡ 12)
-
-abbrev pub decreases-loop-i : goal.decreases-loop-i
-decreases-loop-i l = l.i
+invariant-loop-i l = (l.first ≤ l.i) × (l.i ≤ l.end) × Flags l.on (part l.i l.end (listed l.cells.order)) × (length l.on ≡ 12)

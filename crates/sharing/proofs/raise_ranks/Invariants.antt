@@ -5,7 +5,4 @@ use Rattle.sharing.proofs.Loops.{RaisedFrom}
 use Rattle.sharing.proofs.raise_ranks.Given as goal
 
 abbrev pub invariant-loop-k : goal.invariant-loop-k
-invariant-loop-k l = RaisedFrom l.target.cells.len (sizes_of l.target) (listed l.target.cells) l.old l.p l.k l.end
-
-abbrev pub decreases-loop-k : goal.decreases-loop-k
-decreases-loop-k l = l.k
+invariant-loop-k l = RaisedFrom l.n (sizes_of l.target) (listed l.cells.order) l.old l.p l.k l.end

@@ -1,11 +1,6 @@
 -- `window::number_windows` meets its contract, by the invariant of Numbering.
-use Prim.Native.Nat.{◌-◌, ◌/◌}
-use lib.ListN.{length}
 use Rattle.window.proofs.Numbering.{Numbering}
 use Rattle.window.proofs.number_windows.Given as goal
 
 abbrev pub invariant-loop-k : goal.invariant-loop-k
-invariant-loop-k l = Numbering l.ring l.width l.step l.initial.numbers l.initial.scratch l.numbers l.scratch l.start l.k
-
-abbrev pub decreases-loop-k : goal.decreases-loop-k
-decreases-loop-k l = length l.ring / l.step - l.k
+invariant-loop-k l = Numbering l.ring l.width l.step l.initial.numbers l.initial.scratch l.numbers l.scratch l.k

@@ -1,11 +1,6 @@
 -- `window::windows` meets its contract: the checks of the record, and then those of its levels, which pass.
-use borrow.Author.Rules.{rules}
-use Prim.Native.Nat.{◌≤◌}
-use mathlib.Core.Path.{◌≡◌, sym, ap, ◌∙◌}
-use native.Mathlib.Omega.{arith}
-use lib.ListN.{length}
-use lib.Seq.{length-take-le}
-use Rattle.order.specs.Refusals.{outcome_number, number_of}
+use Rattle.std.proofs.Common.{◌≡◌, length, sym, ap, ◌∙◌, rules, Err}
+use Rattle.order.specs.Refusals.{outcome_number, number_of, refusal_number}
 use Rattle.order.proofs.Refusals.{accepted}
 use Rattle.cell_run.specs.Run.{run_checks, level_checks}
 use Rattle.cell_run.proofs.Checks.{checked_length}
@@ -14,49 +9,24 @@ use Rattle.window.specs.Calls.{ring}
 use Rattle.window.proofs.Answers.{run_refused, run_passed, run_passing}
 use Rattle.window.proofs.windows.Goals as goal
 
-pub slice_bounds-levels-end : goal.slice_bounds-levels-end
-slice_bounds-levels-end c =
-    let passed : number_of (run_checks c.args.run) ≡ 0 = accepted c.check-checked.ensures c.in_default.is in
-    let all : length c.args.run.levels ≡ 128 = search rules in
-    let within : c.args.run.len ≤ length c.args.run.levels = omega (arith, checked_length c.args.run (passed), all) in
-    within
+pub returns-in_err-check : goal.returns-in_err-check
+returns-in_err-check c =
+    let refused : c.from_residual.result ≡ Err c.in_err-check.field-0.0 = search rules in
+    let number : number_of (run_checks c.args.run) ≡ refusal_number c.in_err-check.field-0.0 = sym c.check.ensures ∙ ap outcome_number c.in_err-check.was in
+    let t = run_refused (run_checks c.args.run) (ring c.args.run) c.args.width c.args.step c.args.numbers.now c.args.scratch.now c.in_err-check.field-0.0 number in
+    record { result_value = rw refused t.0; numbers_after = t.1.0; scratch_after = t.1.1 }
 
-pub slice_bounds-windows_of_levels-end : goal.slice_bounds-windows_of_levels-end
-slice_bounds-windows_of_levels-end c =
-    let passed : number_of (run_checks c.args.run) ≡ 0 = accepted c.check-checked.ensures c.in_default.is in
-    let all : length c.args.run.levels ≡ 128 = search rules in
-    let within : c.args.run.len ≤ length c.args.run.levels = omega (arith, checked_length c.args.run (passed), all) in
-    sym (length-take-le c.args.run.len c.args.run.levels (within))
+pub shared_ref_as_front-windows_of_levels : goal.shared_ref_as_front-windows_of_levels
+shared_ref_as_front-windows_of_levels c =
+    let passed : number_of (run_checks c.args.run) ≡ 0 = accepted c.check.ensures c.in_ok-check.was in
+    (checked_length c.args.run passed).1
 
-pub returns-in-Refused-clause-result_value : goal.returns-in-Refused-clause-result_value
-returns-in-Refused-clause-result_value c = (run_refused _ _ _ _ _ _ c.in-Refused.refusal (sym c.check-checked.ensures ∙ ap outcome_number c.in-Refused.is)).0
-
-pub returns-in-Refused-clause-numbers_after : goal.returns-in-Refused-clause-numbers_after
-returns-in-Refused-clause-numbers_after c = (run_refused _ _ _ _ _ _ c.in-Refused.refusal (sym c.check-checked.ensures ∙ ap outcome_number c.in-Refused.is)).1.0
-
-pub returns-in-Refused-clause-scratch_after : goal.returns-in-Refused-clause-scratch_after
-returns-in-Refused-clause-scratch_after c = (run_refused _ _ _ _ _ _ c.in-Refused.refusal (sym c.check-checked.ensures ∙ ap outcome_number c.in-Refused.is)).1.1
-
-pub returns-clause-result_value : goal.returns-clause-result_value
-returns-clause-result_value c =
-    let passed : number_of (run_checks c.args.run) ≡ 0 = accepted c.check-checked.ensures c.in_default.is in
+pub returns : goal.returns
+returns c =
+    let passed : number_of (run_checks c.args.run) ≡ 0 = accepted c.check.ensures c.in_ok-check.was in
     let all : length c.args.run.levels ≡ 128 = search rules in
     let run : IsRun c.args.run = record { passes = passed; levels = all } in
-    (run_passed (run_checks c.args.run) (ring c.args.run) c.args.width c.args.step c.args.numbers.now c.args.scratch.now (passed)
-    (run_passing (level_checks (ring c.args.run)) (ring c.args.run) c.args.width c.args.step c.args.numbers.now c.args.scratch.now (levels_pass c.args.run run) (c.windows_of_levels.ensures.result_value, (c.windows_of_levels.ensures.numbers_after, c.windows_of_levels.ensures.scratch_after)))).0
-
-pub returns-clause-numbers_after : goal.returns-clause-numbers_after
-returns-clause-numbers_after c =
-    let passed : number_of (run_checks c.args.run) ≡ 0 = accepted c.check-checked.ensures c.in_default.is in
-    let all : length c.args.run.levels ≡ 128 = search rules in
-    let run : IsRun c.args.run = record { passes = passed; levels = all } in
-    (run_passed (run_checks c.args.run) (ring c.args.run) c.args.width c.args.step c.args.numbers.now c.args.scratch.now (passed)
-    (run_passing (level_checks (ring c.args.run)) (ring c.args.run) c.args.width c.args.step c.args.numbers.now c.args.scratch.now (levels_pass c.args.run run) (c.windows_of_levels.ensures.result_value, (c.windows_of_levels.ensures.numbers_after, c.windows_of_levels.ensures.scratch_after)))).1.0
-
-pub returns-clause-scratch_after : goal.returns-clause-scratch_after
-returns-clause-scratch_after c =
-    let passed : number_of (run_checks c.args.run) ≡ 0 = accepted c.check-checked.ensures c.in_default.is in
-    let all : length c.args.run.levels ≡ 128 = search rules in
-    let run : IsRun c.args.run = record { passes = passed; levels = all } in
-    (run_passed (run_checks c.args.run) (ring c.args.run) c.args.width c.args.step c.args.numbers.now c.args.scratch.now (passed)
-    (run_passing (level_checks (ring c.args.run)) (ring c.args.run) c.args.width c.args.step c.args.numbers.now c.args.scratch.now (levels_pass c.args.run run) (c.windows_of_levels.ensures.result_value, (c.windows_of_levels.ensures.numbers_after, c.windows_of_levels.ensures.scratch_after)))).1.1
+    let w = c.windows_of_levels.ensures in
+    let t = run_passed (run_checks c.args.run) (ring c.args.run) c.args.width c.args.step c.args.numbers.now c.args.scratch.now passed
+    (run_passing (level_checks (ring c.args.run)) (ring c.args.run) c.args.width c.args.step c.args.numbers.now c.args.scratch.now (levels_pass c.args.run run) (w.result_value, (w.numbers_after, w.scratch_after))) in
+    record { result_value = t.0; numbers_after = t.1.0; scratch_after = t.1.1 }

@@ -6,6 +6,3 @@ use Rattle.writing.proofs.raise_all.Given as goal
 abbrev pub invariant-loop-i : goal.invariant-loop-i
 invariant-loop-i l =
     Raised 1 (cell_numbers l.o) l.o.len l.initial.levels (record { levels = l.levels; floor = l.floor; pulses = l.pulses; count = l.count; pushes = l.pushes }) l.i
-
-abbrev pub decreases-loop-i : goal.decreases-loop-i
-decreases-loop-i l = l.i

@@ -1,77 +1,45 @@
 -- `writing::write` meets its contract.
-use borrow.Author.Tests.{not-true, not-false}
-use mathlib.Core.Path.{◌≡◌, sym, ap, ◌∙◌}
-use mathlib.Core.Bool.{Bool, true}
-use mathlib.Core.List.{List, ◌∷◌, ◌++◌}
-use Rattle.order.specs.declared.Refusal.{Refusal}
-use Rattle.order.specs.declared.Refusal.TheVariants.{NoOrder, Worn, Spent}
+use mathlib.Core.Path.{◌≡◌, ap, ◌∙◌}
+use mathlib.Core.List.{[], ◌∷◌, ◌++◌}
+use Rattle.std.proofs.Common.{true, arith}
+use Rattle.std.proofs.lemmas.Grind.{common_steps}
+use Rattle.order.specs.declared.Order.{Order}
+use Rattle.order.specs.declared.Refusal.TheVariants.{NoOrder}
 use Rattle.order.specs.Refusals.{number_of}
 use Rattle.order.specs.Order.{listed, is_order_of}
-use Rattle.order.proofs.Refusals.{accepted, passed_on, told_refused, told_done, check_fails, check_holds, all_hold, outcome_first, later_decide}
-use Rattle.push_up.specs.declared.PushUp.{PushUp}
-use Rattle.group.specs.Levels.{at_most, tallied}
+use Rattle.order.proofs.Refusals.{accepted, check_holds, all_hold, later_decide}
 use Rattle.group.specs.Record.{group_checks}
+use Rattle.group.proofs.LevelRows.{row_true}
+use Rattle.group.proofs.Checks.{checked_levels}
 use Rattle.push_up.specs.PushUp.{singles}
-use Rattle.push_up.specs.WriteAnswer.{raised, fits, lasts, pushed, write_of, tallies_of}
 use Rattle.push_up.specs.Steps.{push_up_to}
-use Rattle.push_up.proofs.Writes.{checked_target, added_lasts, added_used}
+use Rattle.push_up.specs.WriteAnswer.{write_of}
+use Rattle.push_up.proofs.Writes.{refused_after, programmed_after}
 use Rattle.writing.proofs.write.Goals as goal
-
-pub returns-in_default : goal.returns-in_default
-unfolding write_of
-returns-in_default c =
-    c.unwritten.ensures ∙ passed_on _ _ _ _ (outcome_first _ (group_checks c.args.g) c.check-checked.ensures c.in_default.is) _ c.in_default.is
-
-pub returns-then-not-is_order : goal.returns-then-not-is_order
-unfolding write_of
-returns-then-not-is_order c =
-    let passed : number_of (group_checks c.args.g) ≡ 0 = accepted c.check-checked.ensures c.in-Done.is in
-    c.unwritten-then-not-is_order.ensures
-    ∙ told_refused _ _ _ NoOrder
-    (later_decide _ (group_checks c.args.g) (passed)
-    ∙ check_fails _ _ (sym c.is_order.ensures ∙ c.if-not-is_order.true))
+use Rattle.writing.proofs.write.Goals.{After-raise_all-p}
 
 pub raise_all-p-requires : goal.raise_all-p-requires
-raise_all-p-requires c =
-    let passed : number_of (group_checks c.args.g) ≡ 0 = accepted c.check-checked.ensures c.in-Done.is in
-    let ordered : is_order_of c.args.g.n c.args.target ≡ true = sym c.is_order.ensures ∙ c.if-not-is_order.false in
-    checked_target c.args.g c.args.target (passed) (ordered)
+raise_all-p-requires c = row_true 4095 _ _ (checked_levels c.args.g (accepted c.check.ensures c.in_ok-check.was))
 
-pub returns-then-not-is_within : goal.returns-then-not-is_within
-unfolding fits push_up_to raised write_of
-returns-then-not-is_within c =
-    let tested : c.is_within.result ≡ fits c.args.g (singles (listed c.args.target)) = c.is_within.ensures ∙ ap (λ (p : PushUp). at_most p.levels c.args.g.caps) c.raise_all-p.ensures in
-    let passed : number_of (group_checks c.args.g) ≡ 0 = accepted c.check-checked.ensures c.in-Done.is in
-    let ordered : is_order_of c.args.g.n c.args.target ≡ true = sym c.is_order.ensures ∙ c.if-not-is_order.false in
-    let before_worn : (later : List (Bool × Refusal)) → number_of (group_checks c.args.g ++ (is_order_of c.args.g.n c.args.target, NoOrder) ∷ later) ≡ number_of later = λ later. later_decide _ (group_checks c.args.g) (passed) ∙ check_holds _ _ (ordered) in
-    c.unwritten-then-not-is_within.ensures ∙ told_refused _ _ _ Worn (before_worn _ ∙ check_fails _ _ (sym (tested) ∙ c.if-not-is_within.true))
+-- the checks before the push-up hold, and the push-up is that of the order handed in
+module _ (c : After-raise_all-p) where
+  passed : number_of (group_checks c.args.g) ≡ 0
+  passed = accepted c.check.ensures c.in_ok-check.was
 
-pub returns-then-not-tallies : goal.returns-then-not-tallies
-unfolding fits push_up_to raised write_of
-returns-then-not-tallies c =
-    let passed : number_of (group_checks c.args.g) ≡ 0 = accepted c.check-checked.ensures c.in-Done.is in
-    let ordered : is_order_of c.args.g.n c.args.target ≡ true = sym c.is_order.ensures ∙ c.if-not-is_order.false in
-    let before_worn : (later : List (Bool × Refusal)) → number_of (group_checks c.args.g ++ (is_order_of c.args.g.n c.args.target, NoOrder) ∷ later) ≡ number_of later = λ later. later_decide _ (group_checks c.args.g) (passed) ∙ check_holds _ _ (ordered) in
-    let tested : c.is_within.result ≡ fits c.args.g (singles (listed c.args.target)) = c.is_within.ensures ∙ ap (λ (p : PushUp). at_most p.levels c.args.g.caps) c.raise_all-p.ensures in
-    let fitting : fits c.args.g (singles (listed c.args.target)) ≡ true = sym (tested) ∙ c.if-not-is_within.false in
-    let added : c.add_rises-tallies.result ≡ tallies_of c.args.g.endurance c.args.g.used c.args.g.levels (raised c.args.g (singles (listed c.args.target))) = c.add_rises-tallies.ensures ∙ ap (λ (p : PushUp). tallies_of c.args.g.endurance c.args.g.used c.args.g.levels p.levels) c.raise_all-p.ensures in
-    let checked : number_of (group_checks c.args.g) ≡ 0 = passed in
-    let lasting : lasts c.args.g (singles (listed c.args.target)) ≡ c.add_rises-tallies.result.lasting = sym (added_lasts c.args.g (checked) (singles (listed c.args.target)) c.add_rises-tallies.result (added)) in
-    c.unwritten-then-not-tallies.ensures
-    ∙ told_refused _ _ _ Spent (before_worn _ ∙ check_holds _ _ (fitting) ∙ check_fails _ _ (lasting ∙ not-true _ c.if-not-tallies.true))
+  held : number_of (group_checks c.args.g ++ (is_order_of c.args.g.n c.args.target, NoOrder) ∷ []) ≡ 0
+  held = later_decide _ (group_checks c.args.g) passed ∙ check_holds _ _ c.in-Some.ensures.1 ∙ all_hold
+
+  raised : c.raise_all-p.result ≡ push_up_to 1 (singles (listed c.args.target)) c.args.g.levels
+  raised = c.raise_all-p.ensures ∙ ap (λ (o : Order). push_up_to 1 (singles (listed o)) c.args.g.levels) c.in-Some.ensures.0
+
+pub returns-in_err-used : goal.returns-in_err-used
+unfolding write_of
+returns-in_err-used c =
+    let at = (goal.at.returns-in_err-used c).After-raise_all-p in
+    (grind (arith, common_steps)) ∙ refused_after c.args.g (passed at) (singles (listed c.args.target)) _ true (held at) (raised at) c.in_err-used.field-0.0 c.in_err-used.ensures
 
 pub returns : goal.returns
-unfolding fits push_up_to pushed raised write_of
+unfolding write_of
 returns c =
-    let passed : number_of (group_checks c.args.g) ≡ 0 = accepted c.check-checked.ensures c.in-Done.is in
-    let ordered : is_order_of c.args.g.n c.args.target ≡ true = sym c.is_order.ensures ∙ c.if-not-is_order.false in
-    let before_worn : (later : List (Bool × Refusal)) → number_of (group_checks c.args.g ++ (is_order_of c.args.g.n c.args.target, NoOrder) ∷ later) ≡ number_of later = λ later. later_decide _ (group_checks c.args.g) (passed) ∙ check_holds _ _ (ordered) in
-    let tested : c.is_within.result ≡ fits c.args.g (singles (listed c.args.target)) = c.is_within.ensures ∙ ap (λ (p : PushUp). at_most p.levels c.args.g.caps) c.raise_all-p.ensures in
-    let fitting : fits c.args.g (singles (listed c.args.target)) ≡ true = sym (tested) ∙ c.if-not-is_within.false in
-    let added : c.add_rises-tallies.result ≡ tallies_of c.args.g.endurance c.args.g.used c.args.g.levels (raised c.args.g (singles (listed c.args.target))) = c.add_rises-tallies.ensures ∙ ap (λ (p : PushUp). tallies_of c.args.g.endurance c.args.g.used c.args.g.levels p.levels) c.raise_all-p.ensures in
-    let checked : number_of (group_checks c.args.g) ≡ 0 = passed in
-    let lasting : lasts c.args.g (singles (listed c.args.target)) ≡ c.add_rises-tallies.result.lasting = sym (added_lasts c.args.g (checked) (singles (listed c.args.target)) c.add_rises-tallies.result (added)) in
-    let summed : let t = singles (listed c.args.target) in lasts c.args.g t ≡ true → c.add_rises-tallies.result.used ≡ tallied c.args.g.used c.args.g.levels (raised c.args.g t) = added_used c.args.g (checked) (singles (listed c.args.target)) c.add_rises-tallies.result (added) in
-    let last = lasting ∙ not-false _ c.if-not-tallies.false in
-    rw (summed last, c.raise_all-p.ensures)
-    (told_done _ _ _ (before_worn _ ∙ check_holds _ _ (fitting) ∙ check_holds _ _ last ∙ all_hold))
+    let at = (goal.at.returns c).After-raise_all-p in
+    rw c.programmed.ensures (programmed_after c.args.g (passed at) (singles (listed c.args.target)) _ true (held at) (raised at) _ c.in_ok-used.ensures)

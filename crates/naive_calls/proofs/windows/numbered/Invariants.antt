@@ -1,9 +1,0 @@
--- `naive_calls::windows::numbered` is safe and ends. The measure is what is left of the range.
-use Rattle.std.proofs.Common.{◌-◌}
-use Rattle.naive_calls.proofs.windows.numbered.Given as goal
-
-abbrev pub invariant-loop-i : goal.invariant-loop-i
-invariant-loop-i l = Unit {0}
-
-abbrev pub decreases-loop-i : goal.decreases-loop-i
-decreases-loop-i l = 128 - l.i
