@@ -32,9 +32,6 @@ returns-then-out-at c =
           record { value = put.0; out_after = put.1.0; upper_bound = put.1.1 }
     ]
 
-pub put_named-requires : goal.put_named-requires
-put_named-requires c = rw c.new-text.ensures.buffer (omega (arith, c.if-out-at.false))
-
 pub returns : goal.returns
 returns c =
     let put =

@@ -16,9 +16,6 @@ line k = refl
 pub returns-then-out-at-clause-out_after : goal.returns-then-out-at-clause-out_after
 returns-then-out-at-clause-out_after c = (none_put _ _ _ _ (omega (arith, c.if-out-at.true))).1.0
 
-pub put_named-requires : goal.put_named-requires
-put_named-requires c = rw c.new-text.ensures.buffer (omega (arith, c.if-out-at.false))
-
 pub returns : goal.returns
 returns c =
     let put =
