@@ -137,7 +137,8 @@ impl<'a> Text<'a> {
         }
     }
 
-    // A line of a word and a number.
+    // A line of a word and a number. In line, so that the word's length is known and it is stored: else the C archive would need `memmove` from outside.
+    #[inline(always)]
     fn put_named(&mut self, word: &[u8], n: u64)
         requires { Room (length word.now + 21) self.old }
         ensures { Adds (length word.now + 21) self.old self.new (word.now ++ decimal n ++ 10 ∷ []) }

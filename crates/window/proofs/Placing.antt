@@ -7,9 +7,9 @@ use native.Mathlib.Nat.{add-zero, add_assoc, mod-lt, mod-eq_of_lt, mod-add-mod}
 use native.Mathlib.Numerals.{add-one}
 use native.Mathlib.Omega.{arith}
 use lib.ListN.{length, get_or, set, drop, length-append, length-drop}
-use lib.Seq.{drop-cons, set_at, append_snoc}
+use lib.Seq.{drop-cons, set_at, append_snoc, ext_get_or}
 use Rattle.order.specs.Cells.{tabulate}
-use Rattle.order.proofs.Tabulate.{length_tabulate, tabulate_add}
+use Rattle.order.proofs.Tabulate.{length_tabulate, get_d_tabulate, tabulate_add}
 use Rattle.window.specs.Ring.{level_round, window_at}
 use Rattle.window.specs.Calls.{put_first}
 
@@ -77,3 +77,15 @@ module _ {ring : List ℕ} {p : ℕ} {old out : List ℕ} {at j : ℕ} (s : Plac
   pub placing_end : (width : ℕ) → j ≡ width → out ≡ put_first (window_at ring width p) old
   unfolding window_at
   placing_end width e = rw (← e) (s.list ∙ grown_whole (level_on ring p) j old)
+
+-- ---- all levels, one after the other
+
+abbrev pub level_in : List ℕ → ℕ → ℕ
+level_in ring j = get_or ring j 0
+
+pub levels_whole : (ring old : List ℕ) (j : ℕ) → j ≡ length ring → grown (level_in ring) j old ≡ put_first ring old
+levels_whole ring old j e =
+    let all : tabulate (length ring) (level_in ring) ≡ ring =
+    ext_get_or 0 (tabulate (length ring) (level_in ring)) ring (length_tabulate (length ring) (level_in ring))
+    (λ i l. get_d_tabulate (length ring) (level_in ring) i 0 (omega (arith, length_tabulate (length ring) (level_in ring)))) in
+    rw e (grown_whole (level_in ring) (length ring) old ∙ ap (λ (t : List ℕ). put_first t old) all)

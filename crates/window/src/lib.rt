@@ -86,7 +86,7 @@ fn number_windows(ring: &[u16], width: usize, step: usize, numbers: &mut [u32], 
     for k in 0..count {
         numbers[k] = number_at(ring, k * step, width, scratch);
     }
-    scratch[..ring.len()].copy_from_slice(ring);
+    put_levels(ring, scratch);
 }
 
 // The number of the window that starts at a place. A window that goes round the end of the ring is put together at the front of the scratch.
@@ -101,6 +101,16 @@ fn number_at(ring: &[u16], start: usize, width: usize, scratch: &mut [u16]) -> u
     }
     put_window(ring, start, width, scratch);
     number_of(&scratch[..width])
+}
+
+// Puts the levels of the whole ring first into a list. No `copy_from_slice`: with it the C archive would need `memmove` from outside.
+fn put_levels(ring: &[u16], out: &mut [u16])
+    requires { length ring.now ≤ length out.old }
+    ensures { out.new ≡ put_first ring.now out.old }
+{
+    for j in 0..ring.len() {
+        out[j] = ring[j];
+    }
 }
 
 // Puts the levels of a window first into a list, in ring order. `at` is counted: this holds for a window of any width, and two `copy_from_slice` (to the

@@ -1,5 +1,5 @@
 -- `window::number_windows` meets its contract, by the invariant of Numbering.
-use Rattle.std.proofs.Common.{refl, arith}
+use Rattle.std.proofs.Common.{arith}
 use Rattle.window.proofs.Numbering.{begin, next, numbers_done, scratch_done}
 use Rattle.window.proofs.number_windows.Goals as goal
 
@@ -13,4 +13,4 @@ pub returns-clause-numbers_after : goal.returns-clause-numbers_after
 returns-clause-numbers_after c = numbers_done c.loop-k.invariant (omega (arith, c.loop-k-test.false))
 
 pub returns-clause-scratch_after : goal.returns-clause-scratch_after
-returns-clause-scratch_after c = scratch_done c.loop-k.invariant (rw c.copy_from_slice.ensures.after refl)
+returns-clause-scratch_after c = scratch_done c.loop-k.invariant c.put_levels.ensures
