@@ -5,12 +5,23 @@ use native.Mathlib.Decide.{dec_lt}
 use native.Mathlib.Omega.{arith}
 use mathlib.Core.Path.{◌≡◌}
 use mathlib.Core.Logic.{◌⊎◌, inl, inr, ⊎_elim}
+use mathlib.Core.Bool.{Bool, false, and-false}
 use Rattle.order.proofs.Refusals.{picked_zeros}
-use Rattle.page.specs.Groups.{first_refusing}
+use Rattle.page.specs.Groups.{all_of, first_refusing}
 
 -- below n + 1 is below n or n
 pub below_or_last : (k n : ℕ) → k < suc n → (k < n) ⊎ (k ≡ n)
 below_or_last k n l = elim (dec_lt k n) [ yes h ↦ inl h | no h ↦ inr (omega arith) ]
+
+module _ (test : ℕ → Bool) where
+  pub all_but : (n k : ℕ) → k < n → test (suc k) ≡ false → all_of n test ≡ false
+  unfolding all_of
+  all_but zero k l e = absurd (omega arith)
+  all_but (suc n) k l e =
+      ⊎_elim
+      (λ m. rw (all_but n k m e))
+      (λ d. rw (← d, e) (and-false (all_of k test)))
+      (below_or_last k n l)
 
 -- ---- the first group that refuses
 
