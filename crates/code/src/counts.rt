@@ -47,7 +47,7 @@ impl Counts {
     }
 
     // The number of ways to choose coordinates i to n - 1 whose weighted sum leaves r.
-    pub fn tail(self, i: usize, r: usize) -> u32
+    pub(crate) fn tail(self, i: usize, r: usize) -> u32
         requires { Entry self.n i r }
         ensures { result ≡ tails self.n i r }
     {

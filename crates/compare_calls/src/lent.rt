@@ -1,23 +1,26 @@
 // The write that fills a lent list of pushes.
-use comparing::lent::every_room;
-use comparing::sample;
 use comparing::tally::Tally;
+use comparing::{lent, sample};
 use group::Group;
 use order::Order;
 
-fn write(t: &mut Tally, g: Group, target: Order) {
-    every_room(
-        t,
-        |list| push_list::write_into(g, target, list),
-        |room| naive_calls::machine::write_into(g, target, room),
-    );
+// Lists of 0 to 12 places, two comparisons each.
+fn every_room(t: &mut Tally, g: Group, target: Order) {
+    for room in 0..13 {
+        let mut list = lent::untouched();
+        let a = push_list::write_into(g, target, &mut list[..room]);
+        let b = naive_calls::machine::write_into(g, target, room);
+        lent::compare(t, a, list, b);
+    }
 }
 
 // Sampled records of n cells, each as it is and forged.
-pub fn lists(t: &mut Tally, n: usize) {
+pub fn lists(n: usize) -> Tally {
+    let mut t = Tally::default();
     for s in 0..200 {
         let target = sample::target(n, s);
-        write(t, sample::group(n, s), target);
-        write(t, sample::forged(n, s), target);
+        every_room(&mut t, sample::group(n, s), target);
+        every_room(&mut t, sample::forged(n, s), target);
     }
+    t
 }

@@ -50,12 +50,14 @@ fn each_record(t: &mut Tally, g: Group, target: Order, s: usize) {
 }
 
 // 1,000 sampled records of n cells, each as it is and forged.
-pub fn records(t: &mut Tally, n: usize) {
+pub fn records(n: usize) -> Tally {
+    let mut t = Tally::default();
     for s in 0..1000 {
         let target = sample::target(n, s);
-        each_record(t, sample::group(n, s), target, s);
-        each_record(t, sample::forged(n, s), target, s);
+        each_record(&mut t, sample::group(n, s), target, s);
+        each_record(&mut t, sample::forged(n, s), target, s);
     }
+    t
 }
 
 // The endurance of a list of calls: one that lasts, or in three of four one below 2,000.
@@ -78,10 +80,12 @@ fn list(t: &mut Tally, n: usize, s: usize) {
 }
 
 // 40 lists of calls on groups of n cells.
-pub fn lists(t: &mut Tally, n: usize) {
+pub fn lists(n: usize) -> Tally {
+    let mut t = Tally::default();
     for s in 0..40 {
-        list(t, n, 1000 * s);
+        list(&mut t, n, 1000 * s);
     }
+    t
 }
 
 // Call k on 3 cells: symbols 0 to 2 are stored, then a scrub, a read and an erase; then cells 0 to 4 leak by 1 and are worn to 1;
@@ -107,17 +111,21 @@ fn small_call(k: usize) -> Call {
 }
 
 // Every small group: 27 levels, 64 caps, marked or not, and 0 to 3 pulses used of cell 1; and each of the 22 calls on it.
-pub fn every_small(t: &mut Tally) {
+pub fn every_small() -> Tally {
+    let mut t = Tally::default();
     for k in 0..304128 {
-        apply(t, sample::small(3, k / 22), small_call(k % 22));
+        apply(&mut t, sample::small(3, k / 22), small_call(k % 22));
     }
+    t
 }
 
 // Every small group with 0 to 3 pulses used of each cell; and each of the six orders written to it.
-pub fn every_small_write(t: &mut Tally) {
+pub fn every_small_write() -> Tally {
+    let mut t = Tally::default();
     for k in 0..1327104 {
-        apply(t, sample::small(3, k / 6), small_call(16 + k % 6));
+        apply(&mut t, sample::small(3, k / 6), small_call(16 + k % 6));
     }
+    t
 }
 
 // The first of two groups: forged in one of five.
@@ -143,10 +151,12 @@ fn other(n: usize, k: usize) -> Group {
 }
 
 // 2,500 pairs of groups.
-pub fn alike(t: &mut Tally, n: usize) {
+pub fn alike(n: usize) -> Tally {
+    let mut t = Tally::default();
     for k in 0..2500 {
         let g = one(n, k);
         let h = other(n, k);
         t.compare(engine::alike(g, h), naive_calls::machine::alike(g, h));
     }
+    t
 }

@@ -82,10 +82,12 @@ fn forged(run: Run, k: usize) -> Run {
 }
 
 // Every length to 140, and the huge ones.
-pub fn opens(t: &mut Tally) {
+pub fn opens() -> Tally {
+    let mut t = Tally::default();
     for n in (0..141).chain(HUGE) {
         t.compare(cell_run::open_run(n), naive_calls::windows::open_run(n));
     }
+    t
 }
 
 // The levels of a run and two zeros.
@@ -95,22 +97,20 @@ fn row(run: Run) -> [u16; 130] {
     levels
 }
 
-// Two comparisons of a record: whether it is a run, and whether its levels are one as a list.
-fn each_check(t: &mut Tally, run: Run) {
-    let levels = row(run);
-    let list = &levels[..run.len.min(130)];
-    t.compare(cell_run::check(run), naive_calls::windows::check(run));
-    t.compare(
-        cell_run::check_levels(list),
-        naive_calls::windows::check(naive_calls::windows::listed(list)),
-    );
-}
-
-// Every record.
-pub fn checks(t: &mut Tally) {
+// Two comparisons of every record: whether it is a run, and whether its levels are one as a list.
+pub fn checks() -> Tally {
+    let mut t = Tally::default();
     for k in 0..64 {
-        each_check(t, record(k, 4096));
+        let run = record(k, 4096);
+        let levels = row(run);
+        let list = &levels[..run.len.min(130)];
+        t.compare(cell_run::check(run), naive_calls::windows::check(run));
+        t.compare(
+            cell_run::check_levels(list),
+            naive_calls::windows::check(naive_calls::windows::listed(list)),
+        );
     }
+    t
 }
 
 // One comparison of a cell raised to a level.
@@ -135,10 +135,12 @@ fn every_cell(t: &mut Tally, run: Run) {
 }
 
 // Every record.
-pub fn raises(t: &mut Tally) {
+pub fn raises() -> Tally {
+    let mut t = Tally::default();
     for k in 0..64 {
-        every_cell(t, record(k, 4096));
+        every_cell(&mut t, record(k, 4096));
     }
+    t
 }
 
 // The answer to a call for windows, and the lists after it.
@@ -209,10 +211,12 @@ fn every_window(t: &mut Tally, run: Run) {
 }
 
 // 32 records.
-pub fn along(t: &mut Tally, from: usize, m: usize) {
+pub fn along(from: usize, m: usize) -> Tally {
+    let mut t = Tally::default();
     for k in from..from.saturating_add(32) {
-        every_window(t, record(k, m));
+        every_window(&mut t, record(k, m));
     }
+    t
 }
 
 // A call for windows that is lent all places.
@@ -226,11 +230,13 @@ fn roomy(width: usize, step: usize) -> Asked {
 }
 
 // Lists of 0 to 130 levels, widths 0 to 14, steps 0 to 13.
-pub fn slices(t: &mut Tally) {
+pub fn slices() -> Tally {
+    let mut t = Tally::default();
     let levels = row(record(24, 40));
     for k in 0..27510 {
-        of_levels(t, &levels[..k / 210], roomy(k / 14 % 15, k % 14));
+        of_levels(&mut t, &levels[..k / 210], roomy(k / 14 % 15, k % 14));
     }
+    t
 }
 
 // One comparison of whether windows along n cells can have a width and a step.
@@ -242,23 +248,26 @@ fn each_limit(t: &mut Tally, n: usize, width: usize, step: usize) {
 }
 
 // 0 to 130 cells, widths 0 to 14, steps 0 to 13.
-pub fn every_limit(t: &mut Tally) {
+pub fn every_limit() -> Tally {
+    let mut t = Tally::default();
     for k in 0..27510 {
-        each_limit(t, k / 210, k / 14 % 15, k % 14);
+        each_limit(&mut t, k / 210, k / 14 % 15, k % 14);
     }
+    t
 }
 
 // A call that fits a run of 12 cells; the same with a huge width, with a huge step, with no place for the numbers, and with none in the scratch.
 // The limits by themselves too, also of huge lengths.
-pub fn limits(t: &mut Tally) {
+pub fn limits() -> Tally {
+    let mut t = Tally::default();
     let run = record(9, 4096);
-    each_call(t, run, roomy(3, 3));
+    each_call(&mut t, run, roomy(3, 3));
     for huge in HUGE {
-        each_call(t, run, roomy(huge, 3));
-        each_call(t, run, roomy(3, huge));
-        each_limit(t, 12, huge, 3);
-        each_limit(t, 12, 3, huge);
-        each_limit(t, huge, 3, 3);
+        each_call(&mut t, run, roomy(huge, 3));
+        each_call(&mut t, run, roomy(3, huge));
+        each_limit(&mut t, 12, huge, 3);
+        each_limit(&mut t, 12, 3, huge);
+        each_limit(&mut t, huge, 3, 3);
     }
     for (room, places) in [(0, 130), (130, 0)] {
         let asked = Asked {
@@ -267,6 +276,7 @@ pub fn limits(t: &mut Tally) {
             room,
             places,
         };
-        each_call(t, run, asked);
+        each_call(&mut t, run, asked);
     }
+    t
 }

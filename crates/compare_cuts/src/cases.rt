@@ -17,15 +17,17 @@ fn at_limit(g: Group, call: Call) -> Group {
 }
 
 // Every small group, and each of the six orders written to it in this way, in a shared write with ranks that end there (`sample::ranked`).
-pub fn every_small(t: &mut Tally, kind: Kind, ends: usize) {
+pub fn every_small(kind: Kind, ends: usize) -> Tally {
+    let mut t = Tally::default();
     for k in 0..20736 {
         let call = Call {
             kind,
             target: sample::ranked(sample::order_at(3, k % 6), 3, ends),
         };
         let g = at_limit(sample::small(3, k / 6), call);
-        compared(t, g, call, call, k);
+        compared(&mut t, g, call, call, k);
     }
+    t
 }
 
 // After a cut the word that the scrub found is written: what is half written may read as another one.
@@ -53,22 +55,25 @@ fn changed(t: &mut Tally, n: usize, s: usize, kind: Kind) {
 }
 
 // 320 sampled groups of each size: 80 are scrubbed, 20 stored to, and 220 written to.
-pub fn sampled(t: &mut Tally) {
+pub fn sampled() -> Tally {
+    let mut t = Tally::default();
     for k in 0..3200 {
         let s = 1000 * k;
         let n = 3 + k / 320;
         if k % 4 == 1 {
-            scrubbed(t, sample::group(n, s), s);
+            scrubbed(&mut t, sample::group(n, s), s);
         } else if k % 16 == 0 {
-            changed(t, n, s, Kind::Store(sample::symbol(n, s)));
+            changed(&mut t, n, s, Kind::Store(sample::symbol(n, s)));
         } else {
-            changed(t, n, s, Kind::Write);
+            changed(&mut t, n, s, Kind::Write);
         }
     }
+    t
 }
 
 // 100 sampled groups of each size, with a shared write to each.
-pub fn shared(t: &mut Tally) {
+pub fn shared() -> Tally {
+    let mut t = Tally::default();
     for k in 0..1000 {
         let s = 1000 * k;
         let n = 3 + k / 100;
@@ -76,6 +81,7 @@ pub fn shared(t: &mut Tally) {
             kind: Kind::WriteShared,
             target: sample::shared(n, s),
         };
-        compared(t, sample::group(n, s), call, call, s);
+        compared(&mut t, sample::group(n, s), call, call, s);
     }
+    t
 }

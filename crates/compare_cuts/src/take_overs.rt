@@ -52,14 +52,16 @@ fn every_length(t: &mut Tally, levels: [u16; 14], caps: [u16; 14]) {
 }
 
 // At each of twelve places each edge in the levels, and each in the caps. The other caps are above the other levels or below them.
-pub fn every_edge(t: &mut Tally) {
+pub fn every_edge() -> Tally {
+    let mut t = Tally::default();
     for k in 0..192 {
         let mut levels = [2000u16; 14];
         let mut caps = [sample::narrow(21 * k); 14];
         levels[k / 16] = EDGES[k / 4 % 4];
         caps[k / 16] = EDGES[k % 4];
-        every_length(t, levels, caps);
+        every_length(&mut t, levels, caps);
     }
+    t
 }
 
 // How long a list is that is right, or has a value too many.
@@ -97,11 +99,13 @@ fn used_edge(endurance: u32, way: usize) -> u32 {
 }
 
 // Each endurance, and at each of twelve places each edge in the used pulses, which elsewhere are 0.
-pub fn every_tally(t: &mut Tally) {
+pub fn every_tally() -> Tally {
+    let mut t = Tally::default();
     for k in 0..192 {
         let endurance = ENDURANCES[k % 4];
         let mut used = [0u32; 14];
         used[k / 16] = used_edge(endurance, k / 4 % 4);
-        every_tally_length(t, used, endurance);
+        every_tally_length(&mut t, used, endurance);
     }
+    t
 }

@@ -19,7 +19,8 @@ fn seed(k: usize) -> u32 {
 }
 
 // One comparison each of the state after a state.
-pub fn steps(t: &mut Tally) {
+pub fn steps() -> Tally {
+    let mut t = Tally::default();
     for k in 0..4096 {
         let x = seed(k);
         t.compare(
@@ -27,6 +28,7 @@ pub fn steps(t: &mut Tally) {
             Ok(naive_calls::loads::next_state(x)),
         );
     }
+    t
 }
 
 // A load in two parts, of which the first has so many places, and the second begins with its last state, or with 0 where it is refused.
@@ -57,16 +59,20 @@ fn every_length(t: &mut Tally, n: usize, seed: u32) {
 }
 
 // 64 seeds.
-pub fn every_seed(t: &mut Tally, n: usize) {
+pub fn every_seed(n: usize) -> Tally {
+    let mut t = Tally::default();
     for k in 0..64 {
-        every_length(t, n, seed(k));
+        every_length(&mut t, n, seed(k));
     }
+    t
 }
 
 // 20 sizes that no group has, with a seed of 0 and with one of 1.
-pub fn sizes(t: &mut Tally) {
+pub fn sizes() -> Tally {
+    let mut t = Tally::default();
     for k in 0..20 {
-        every_length(t, sample::size(k), 0);
-        every_length(t, sample::size(k), 1);
+        every_length(&mut t, sample::size(k), 0);
+        every_length(&mut t, sample::size(k), 1);
     }
+    t
 }

@@ -14,16 +14,23 @@ use std::io;
 fn compare_orders(report: &mut Report<'_, impl Print>) -> io::Result<()> {
     // n! orders, 29 comparisons each. As coordinates, the cells are in range for [1, .., n] alone: n! - 1 are refused 11. A word is near n
     // orders, itself among them: three calls refuse n! - nK orders as lost. All else is done.
-    report.each("every order, n = ", 3..=6, orders::every)?;
+    for n in 3..=6 {
+        report.part("every order, n = ", n, orders::every(n))?;
+    }
     // n! times n! pairs, 4 comparisons each, all done.
-    report.each("every pair of orders, n = ", 3..=6, orders::every_pair)?;
+    for n in 3..=6 {
+        report.part("every pair of orders, n = ", n, orders::every_pair(n))?;
+    }
     // 1,250 lists of each length, an order or none, 36 comparisons each. The last length, 16 here, is 2^64 - 1. Where no group has the length,
     // 5,000 are refused 4, as second of a pair; 1,250 are no refusal; the others are refused 1, but for length 2 as three coordinates.
-    report.each("lists, length ", 0..=16, |t, k| {
-        orders::every_list(t, orders::length(k))
-    })?;
+    for k in 0..=16 {
+        report.part("lists, length ", k, orders::every_list(orders::length(k)))?;
+    }
     // 2,000 sampled orders, one in 16 of them damaged, 32 comparisons each.
-    report.each("sampled orders, n = ", 7..=12, orders::every_sample)
+    for n in 7..=12 {
+        report.part("sampled orders, n = ", n, orders::every_sample(n))?;
+    }
+    Ok(())
 }
 
 // The parts on the code and on loads.
@@ -31,15 +38,19 @@ fn compare_symbols(report: &mut Report<'_, impl Print>) -> io::Result<()> {
     // Every word is listed. One in so many is compared, 5 comparisons each of which one is refused 8: K of them to n = 9, then K / 16,
     // K / 256 and K / 4,096, rounded up. Then 16 sampled orders, 3 each, which a lost one refuses 7; and 4 for the end of the list, of which 3
     // are refused 5.
-    report.each("words, n = ", 3..=12, words::through)?;
+    for n in 3..=12 {
+        report.part("words, n = ", n, words::through(n))?;
+    }
     // 20 sizes, 12 comparisons each: of the 10 that a group has, 20 new groups, and 20 refused 20; 40 times no order, which is no refusal; all else refused 1.
-    report.part("sizes, ", 20, words::every_size)?;
+    report.part("sizes, ", 20, words::every_size())?;
     // One comparison each.
-    report.part("steps of a load, ", 4096, loads::steps)?;
+    report.part("steps of a load, ", 4096, loads::steps())?;
     // 64 seeds, one of them 0, and 0 to 40 places with a cut before or after each, 861 in all: a seed of 0 is refused 21, all else is done.
-    report.each("loads, n = ", 3..=12, loads::every_seed)?;
+    for n in 3..=12 {
+        report.part("loads, n = ", n, loads::every_seed(n))?;
+    }
     // 20 sizes, 2 seeds, 861 comparisons each: all refused 1.
-    report.part("loads of no size, ", 20, loads::sizes)
+    report.part("loads of no size, ", 20, loads::sizes())
 }
 
 // The frame of each comparison: the report of this program's parts, and its total.

@@ -95,16 +95,20 @@ fn each_order<F: FnMut(Order)>(n: usize, mut visit: F)
 }
 
 // Every order of n cells, and the reading that a search through all words finds.
-pub fn every(t: &mut Tally, n: usize) {
+pub fn every(n: usize) -> Tally {
+    let mut t = Tally::default();
     each_order(n, |o| {
-        each(t, o);
+        each(&mut t, o);
         t.compare(code::corrected(o), naive_calls::symbols::searched(o));
     });
+    t
 }
 
 // Every pair of orders of n cells.
-pub fn every_pair(t: &mut Tally, n: usize) {
-    each_order(n, |u| each_order(n, |v| each_pair(t, u, v)));
+pub fn every_pair(n: usize) -> Tally {
+    let mut t = Tally::default();
+    each_order(n, |u| each_order(n, |v| each_pair(&mut t, u, v)));
+    t
 }
 
 // Lists that begin with any four numbers from 0 to 4, also past their length, and go on with 5, 6 and so on; the twelfth place is one more from
@@ -121,13 +125,15 @@ fn listed(len: usize, k: usize) -> Order {
 }
 
 // Every such list of a length, alone, beside list k / 2 of the same length, and after the order [2,1,4,3].
-pub fn every_list(t: &mut Tally, len: usize) {
+pub fn every_list(len: usize) -> Tally {
+    let mut t = Tally::default();
     for k in 0..1250 {
         let o = listed(len, k);
-        each(t, o);
-        each_pair(t, o, listed(len, k / 2));
-        each_pair(t, listed(4, 482), o);
+        each(&mut t, o);
+        each_pair(&mut t, o, listed(len, k / 2));
+        each_pair(&mut t, listed(4, 482), o);
     }
+    t
 }
 
 // A length of a list, or a number of places; the last one huge.
@@ -136,10 +142,12 @@ pub fn length(len: usize) -> usize {
 }
 
 // Sampled orders of n cells, one in 16 damaged, each beside another.
-pub fn every_sample(t: &mut Tally, n: usize) {
+pub fn every_sample(n: usize) -> Tally {
+    let mut t = Tally::default();
     for s in 0..2000 {
         let o = sample::target(n, s);
-        each(t, o);
-        each_pair(t, o, sample::order(n, s + 1));
+        each(&mut t, o);
+        each_pair(&mut t, o, sample::order(n, s + 1));
     }
+    t
 }

@@ -120,21 +120,24 @@ fn stride(n: usize) -> u32 {
 
 // One way through all words of n cells. One word in `stride` is compared, and each sampled order once: where a word is near it, or
 // at the end.
-pub fn through(t: &mut Tally, n: usize) {
+pub fn through(n: usize) -> Tally {
+    let mut t = Tally::default();
     let mut held = Held::new(n);
     let mut next = first(n);
     for symbol in 0..LISTS {
         let Some(l) = next else {
-            held.lost(t);
-            return ended(t, n, symbol);
+            held.lost(&mut t);
+            ended(&mut t, n, symbol);
+            break;
         };
         let cells = word_cells(l);
         if symbol.checked_rem(stride(n)) == Some(0) {
-            each_word(t, l, cells, symbol);
+            each_word(&mut t, l, cells, symbol);
         }
-        held.met(t, cells, symbol);
+        held.met(&mut t, cells, symbol);
         next = next_word(l);
     }
+    t
 }
 
 // Four comparisons: new groups of this size, with the lowest and the highest endurance and with the two just outside.
@@ -159,8 +162,10 @@ fn each_size(t: &mut Tally, k: usize) {
     opens(t, k);
 }
 
-pub fn every_size(t: &mut Tally) {
+pub fn every_size() -> Tally {
+    let mut t = Tally::default();
     for k in 0..20 {
-        each_size(t, k);
+        each_size(&mut t, k);
     }
+    t
 }

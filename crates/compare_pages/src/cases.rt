@@ -73,13 +73,14 @@ fn way(n: usize, k: usize, j: usize) -> usize {
 }
 
 // So many groups that hold symbols, spoiled as in case k, and a symbol for each: in the eighth way one that no group has. The records after them have
-// another n, and are no groups where n is a size.
+// another n, and are no groups where n is a size. The ninth symbol is 0.
 fn made(n: usize, many: usize, k: usize) -> Case {
     let groups = array::from_fn(|j| {
         let size = if j < many { n } else { n.wrapping_add(13) };
         changed(record(size, k.wrapping_add(j)), way(n, k, j))
     });
     let symbols = array::from_fn(|j| match way(n, k, j) {
+        _ if j == 8 => 0,
         8 => u32::MAX,
         _ => sample::narrow(sample::below(sample::words(n), k, j)),
     });
@@ -94,20 +95,24 @@ fn refuse(t: &mut Tally, n: usize, k: usize) {
 
 // 3 to 8 cells, all 1,408 cases; 9 to 12 cells, 256 of them each; in these together 2, 5, 6, 7, 8 and 19 each come from each of the
 // eight groups.
-pub fn refusing(t: &mut Tally) {
+pub fn refusing() -> Tally {
+    let mut t = Tally::default();
     for i in 0..8448 {
-        refuse(t, 3 + i / 1408, i % 1408);
+        refuse(&mut t, 3 + i / 1408, i % 1408);
     }
     for i in 0..1024 {
-        refuse(t, 9 + i / 256, i % 256 * 437 % 1408);
+        refuse(&mut t, 9 + i / 256, i % 256 * 437 % 1408);
     }
+    t
 }
 
 // No cells, 3 to 12, and 13: eight groups with each count, and lists of 0 to 9 symbols.
-pub fn counts(t: &mut Tally) {
+pub fn counts() -> Tally {
+    let mut t = Tally::default();
     for i in 0..1800 {
         let size = 2 + i / 150;
         let n = if size == 2 { 0 } else { size };
-        compared(t, made(n, 8, i % 10), COUNTS[i / 10 % 15], i % 10);
+        compared(&mut t, made(n, 8, i % 10), COUNTS[i / 10 % 15], i % 10);
     }
+    t
 }

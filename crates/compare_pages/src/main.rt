@@ -13,9 +13,9 @@ fn main(rt: HostRuntime) -> io::Result<()> {
     let mut report = Report::new(&rt);
     // 1 to 8 groups; one of eight places spoiled in one of ten ways or not, in half of the cases the last group too; 3 comparisons each. All 1,408
     // cases of 3 to 8 cells, and 256 of 9 to 12, where the second implementation numbers words slowly: 0, 1, 2, 5, 6, 7, 8, 16, 19.
-    report.part("refusing groups, n = 3 to ", 12, cases::refusing)?;
+    report.part("refusing groups, n = 3 to ", 12, cases::refusing())?;
     // 12 sizes, two of which no group has, 15 counts, lists of 0 to 9 symbols, 3 comparisons each. With each size of a group 80 pages are read and read
     // again, and 8 of them stored to; with the two others that is refused 1, and all else 16.
-    report.part("counts and lengths, n to ", 13, cases::counts)?;
+    report.part("counts and lengths, n to ", 13, cases::counts())?;
     report.total()
 }

@@ -28,20 +28,24 @@ fn every_list(t: &mut Tally, n: usize, groups: usize, lists: usize, order: Order
 }
 
 // So many groups of n cells, and to each the targets: each of the lists of sizes with each order.
-pub fn every(t: &mut Tally, n: usize, groups: usize, lists: usize, orders: usize) {
+pub fn every(n: usize, groups: usize, lists: usize, orders: usize) -> Tally {
+    let mut t = Tally::default();
     for k in 0..orders {
-        every_list(t, n, groups, lists, sample::order_at(n, k));
+        every_list(&mut t, n, groups, lists, sample::order_at(n, k));
     }
+    t
 }
 
 // 2,000 sampled targets of each size, written to a group and to a forged one.
-pub fn sampled(t: &mut Tally) {
+pub fn sampled() -> Tally {
+    let mut t = Tally::default();
     for k in 0..20000 {
         let n = 3 + k / 2000;
         let target = sample::shared(n, k);
-        compared(t, sample::group(n, k), target);
-        compared(t, sample::forged(n, k), target);
+        compared(&mut t, sample::group(n, k), target);
+        compared(&mut t, sample::forged(n, k), target);
     }
+    t
 }
 
 // The record with its mark cleared.
@@ -77,9 +81,11 @@ fn as_plain(t: &mut Tally, g: Group, order: Order) {
 }
 
 // 1,000 sampled groups of each size, with an order to write to each.
-pub fn plain_targets(t: &mut Tally) {
+pub fn plain_targets() -> Tally {
+    let mut t = Tally::default();
     for k in 0..10000 {
         let n = 3 + k / 1000;
-        as_plain(t, sample::group(n, k), sample::order(n, k));
+        as_plain(&mut t, sample::group(n, k), sample::order(n, k));
     }
+    t
 }

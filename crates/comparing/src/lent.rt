@@ -13,7 +13,7 @@ const UNTOUCHED: Push = Push {
 
 // What must stand in the list after the call: the pushes, and after them, as beside a refusal, what stood there.
 fn due(answer: Result<Written, Refusal>) -> [Push; 12] {
-    let mut list = [UNTOUCHED; 12];
+    let mut list = untouched();
     if let Ok(written) = answer {
         for (i, push) in written.pushes.iter().enumerate().take(written.count) {
             list[i] = *push;
@@ -22,23 +22,23 @@ fn due(answer: Result<Written, Refusal>) -> [Push; 12] {
     list
 }
 
-// Lists of 0 to 12 places: two comparisons each of a write where so many of twelve places are lent, the answer, and the list that was lent.
-pub fn every_room<E, N>(t: &mut Tally, engine: E, naive: N)
-where
-    E: Fn(&mut [Push]) -> Result<WrittenInto, Refusal>,
-    N: Fn(usize) -> Result<Written, Refusal>,
-    requires { E.IsAlwaysCallable engine × N.IsAlwaysCallable naive }
-{
-    for room in 0..13 {
-        let mut list = [UNTOUCHED; 12];
-        let a = engine(&mut list[..room]);
-        let b = naive(room);
-        let told = b.map(|w| WrittenInto {
-            group: w.group,
-            pulses: w.pulses,
-            count: w.count,
-        });
-        t.compare(a, told);
-        t.compare_and(a, told, list == due(b));
-    }
+// A list of twelve places before a call, which is lent the first ones.
+pub fn untouched() -> [Push; 12] {
+    [UNTOUCHED; 12]
+}
+
+// Two comparisons of a write that was lent places of such a list: of its answer with the one that is due, and of the list as it is left.
+pub fn compare(
+    t: &mut Tally,
+    answer: Result<WrittenInto, Refusal>,
+    list: [Push; 12],
+    naive: Result<Written, Refusal>,
+) {
+    let told = naive.map(|w| WrittenInto {
+        group: w.group,
+        pulses: w.pulses,
+        count: w.count,
+    });
+    t.compare(answer, told);
+    t.compare_and(answer, told, list == due(naive));
 }

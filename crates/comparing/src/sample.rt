@@ -5,8 +5,8 @@ use group::Group;
 use naive::levels::index;
 use naive::numbers::{at, byte, put};
 use naive::orders::{cells_of, placed, with_cells};
-use naive::words::{first, is_word, next, word_cells};
-use order::{Cell, Order, zero_order};
+use naive::words::{Listing, is_word, next, word_cells};
+use order::{Cell, Order};
 use plain_machine::{Call, Kind, plain_target};
 use sharing::Ranked;
 use std::array;
@@ -91,10 +91,11 @@ pub fn order(n: usize, s: usize) -> Order {
     with_cells(placed(coordinates(n, s), n), n)
 }
 
-// Order number k of n cells in the list of all coordinates.
+// Order number k of n cells in the list of all coordinates, which begins again after the last one.
 pub fn order_at(n: usize, k: usize) -> Order {
-    let listed = (0..k).fold(first(n), |l, _| l.and_then(next));
-    listed.map_or(zero_order(), |l| with_cells(word_cells(l), n))
+    let first = Listing { n, values: [0; 12] };
+    let listed = (0..k).fold(first, |l, _| next(l).unwrap_or(first));
+    with_cells(word_cells(listed), n)
 }
 
 // A word of n cells: the first of many sampled lists whose weighted sum is divisible by 2n - 1.

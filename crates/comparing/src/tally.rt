@@ -31,9 +31,9 @@ const TABLE: [Refusal; 21] = [
 
 #[derive(Clone, Copy, PartialEq, Eq)]
 pub struct Tally {
-    made: u64,
-    differed: u64,
-    given: [u64; 27],
+    pub made: u64,
+    pub differed: u64,
+    pub given: [u64; 27],
 }
 
 impl Default for Tally {
@@ -81,7 +81,7 @@ impl fmt::Display for Tally {
 }
 
 // The number of an answer by that table: 0 is done.
-fn number_of(answer: Result<(), Refusal>) -> u8 {
+pub fn number_of(answer: Result<(), Refusal>) -> u8 {
     match answer {
         Ok(()) => 0,
         Err(refusal) => match TABLE.iter().position(|listed| *listed == refusal) {
@@ -114,7 +114,7 @@ impl Tally {
     }
 
     // One comparison more, where the naive answer has this number.
-    fn note(&mut self, number: u8, same: bool) {
+    pub fn note(&mut self, number: u8, same: bool) {
         self.made = self.made.wrapping_add(1);
         if !same {
             self.differed = self.differed.wrapping_add(1);

@@ -16,6 +16,10 @@ pub fn with_cells(cells: [u8; 12], n: usize) -> Order {
     }
 }
 
+pub fn ranks_in(r: Ranks) -> [u8; 12] {
+    r.ranks.map(|rank| rank.0)
+}
+
 pub fn with_ranks(ranks: [u8; 12], n: usize) -> Ranks {
     Ranks {
         len: n,
@@ -24,7 +28,7 @@ pub fn with_ranks(ranks: [u8; 12], n: usize) -> Ranks {
 }
 
 // How many of the first n places hold x. Here and below the twelve places and n go by themselves: the zeros past n are part of what is asked.
-fn times(values: [u8; 12], n: usize, x: usize) -> usize {
+pub fn times(values: [u8; 12], n: usize, x: usize) -> usize {
     values
         .iter()
         .take(n)
@@ -87,7 +91,7 @@ pub fn ranks_of(o: Order) -> Result<Ranks, Refusal> {
 }
 
 pub fn from_ranks(r: Ranks) -> Result<Order, Refusal> {
-    let ranks = r.ranks.map(|rank| rank.0);
+    let ranks = ranks_in(r);
     check_list(ranks, r.len)?;
     Ok(with_cells(places(ranks, r.len), r.len))
 }
@@ -163,13 +167,19 @@ pub fn placed(values: [u8; 12], n: usize) -> [u8; 12] {
     cells
 }
 
+// Coordinate i at index i.
+pub fn shifted(x: Coordinates) -> [u8; 12] {
+    let mut values = [0; 12];
+    values[1..].copy_from_slice(&x.values);
+    values
+}
+
 pub fn from_coordinates(x: Coordinates) -> Result<Order, Refusal> {
     let n = x.len.wrapping_add(1);
     if !is_size(n) {
         return Err(Refusal::Size);
     }
-    let mut values = [0; 12];
-    values[1..].copy_from_slice(&x.values);
+    let values = shifted(x);
     if !are_in_range(values, n) {
         return Err(Refusal::Coordinate);
     }

@@ -1,6 +1,6 @@
 // The one-error code (document 01, "The one-error code"): words by listing every one of them.
 use crate::levels::index;
-use crate::numbers::{at, is_size, put};
+use crate::numbers::{at, byte, is_size, put};
 use crate::orders::{cells_of, check_order, coordinates_at, placed, with_coordinates};
 use coordinates::Sweep;
 use order::{Order, Refusal};
@@ -98,6 +98,12 @@ pub fn word_cells(l: Listing) -> [u8; 12] {
 pub fn is_codeword(o: Order) -> Result<bool, Refusal> {
     check_order(o)?;
     Ok(is_word(coordinates_at(cells_of(o), o.len), o.len))
+}
+
+// The first place, from 1, at which two lists of cells differ; 0 where they are equal.
+pub fn first_difference(a: [u8; 12], b: [u8; 12]) -> u8 {
+    let index = a.iter().zip(&b).position(|(x, y)| x != y);
+    index.map_or(0, |i| byte(i.wrapping_add(1)))
 }
 
 // The cells with those of ranks k and k + 1 exchanged, as they are for k = 0.

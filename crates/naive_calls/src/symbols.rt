@@ -4,7 +4,7 @@ use code::{Decoded, DecodedWord, Verdict};
 use naive::numbers::{byte, is_size, put};
 use naive::orders::{cells_of, check_order, coordinates_at, placed, places, with_cells};
 use naive::pairs::opposed;
-use naive::words::{exchanged, first, is_word, left, next_word, word_cells};
+use naive::words::{exchanged, first, first_difference, is_word, left, next_word, word_cells};
 use order::{Order, Rank, Refusal};
 
 // There are no more words than lists of coordinates: 12 factorial.
@@ -88,13 +88,10 @@ pub fn codeword(n: usize, symbol: u32) -> Result<Order, Refusal> {
 
 // What a reading says of cells that are near a word: put right at the first rank where they differ.
 pub fn found(cells: [u8; 12], word: [u8; 12], n: usize, symbol: u32) -> DecodedWord {
-    let differs = cells
-        .iter()
-        .zip(&word)
-        .position(|(read, right)| read != right);
-    let verdict = differs.map_or(Verdict::Clean, |i| {
-        Verdict::PutRight(Rank(byte(i.wrapping_add(1))))
-    });
+    let verdict = match first_difference(cells, word) {
+        0 => Verdict::Clean,
+        place => Verdict::PutRight(Rank(place)),
+    };
     DecodedWord {
         decoded: Decoded { symbol, verdict },
         word: with_cells(word, n),
