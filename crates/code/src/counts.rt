@@ -24,26 +24,50 @@ impl Counts {
     {
         let n = size.cells;
         let table = tail_counts();
-        let rows: &'static [u32] = match n {
-            3 => &table.of_3,
-            4 => &table.of_4,
-            5 => &table.of_5,
-            6 => &table.of_6,
-            7 => &table.of_7,
-            8 => &table.of_8,
-            9 => &table.of_9,
-            10 => &table.of_10,
-            11 => &table.of_11,
-            _ => &table.of_12,
+        // Four matches of at most three sizes: one of ten would be a table of ten addresses, which whoever loads the archive for C would have to relocate.
+        let rows: &'static [u32] = if n < 6 {
+            match n {
+                3 => &table.of_3,
+                4 => &table.of_4,
+                _ => &table.of_5,
+            }
+        } else if n < 9 {
+            match n {
+                6 => &table.of_6,
+                7 => &table.of_7,
+                _ => &table.of_8,
+            }
+        } else if n < 11 {
+            match n {
+                9 => &table.of_9,
+                _ => &table.of_10,
+            }
+        } else {
+            match n {
+                11 => &table.of_11,
+                _ => &table.of_12,
+            }
         };
         Counts { n, rows }
     }
 
-    // K(n): the first count.
+    // K(n): the first count. By size, and not of the rows: these are numbers, and so one table of them with no address.
     pub fn words(self) -> u32
         ensures { result ≡ K self.n }
     {
-        self.rows[0]
+        let table = tail_counts();
+        match self.n {
+            3 => table.of_3[0],
+            4 => table.of_4[0],
+            5 => table.of_5[0],
+            6 => table.of_6[0],
+            7 => table.of_7[0],
+            8 => table.of_8[0],
+            9 => table.of_9[0],
+            10 => table.of_10[0],
+            11 => table.of_11[0],
+            _ => table.of_12[0],
+        }
     }
 
     // The number of ways to choose coordinates i to n - 1 whose weighted sum leaves r.
